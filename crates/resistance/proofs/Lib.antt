@@ -1,0 +1,6 @@
+pub mod Bounds
+pub mod Held
+pub mod Ratios
+pub mod Readings
+pub mod RootWords
+pub mod Squares

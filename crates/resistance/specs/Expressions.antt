@@ -1,0 +1,53 @@
+-- One expression, read two ways: the printed figure, and the exact resistance by what is at or below it.
+use mathlib.Core.Bool.{cond}
+use Prim.Native.Nat.{ℕ, _+_, _^_, _≤_, _<_}
+use lib.Dec.{ltb}
+use Rattle.std.specs.declared.option.Option.{Option}
+use Rattle.std.specs.declared.option.Option.the-variants.{Some, None}
+use Rattle.resistance.specs.declared.expression.Expression.{Expression}
+use Rattle.resistance.specs.declared.expression.Expression.the-variants.{Whole, Root, Sum}
+use Rattle.resistance.specs.Exact.{AtOrBelow, AtOrBelowRoot, AtOrBelowSum}
+use Rattle.resistance.specs.Fractions.{dropped}
+use Rattle.resistance.specs.Roots.{R}
+
+-- with brackets: the printed figure
+abbrev pub printed : Expression → ℕ
+printed (Whole x) = dropped x
+printed (Root x) = R (dropped x)
+printed (Sum x y) = dropped x + R (dropped y)
+
+-- without: v is at or below the exact resistance
+abbrev pub Allows : Expression → ℕ → Type 0
+Allows (Whole x) v = AtOrBelow v (x .over) (x .under)
+Allows (Root x) v = AtOrBelowRoot v (x .over) (x .under)
+Allows (Sum x y) v = AtOrBelowSum v (x .over) (x .under) (y .over) (y .under)
+
+-- no fraction over 0
+abbrev pub Sound : Expression → Type 0
+Sound (Whole x) = 0 < x .under
+Sound (Root x) = 0 < x .under
+Sound (Sum x y) = (0 < x .under) × (0 < y .under)
+
+-- the newtons by which a printed figure stays under the exact resistance are fewer than this
+abbrev pub margin : ℕ
+margin = 10
+
+-- r is at or below the exact resistance, by less than the margin
+pub record Close (e : Expression) (r : ℕ) : Type 0 where
+  pub below : Allows e r
+  pub above : Allows e (r + margin) → ⊥
+
+-- what holds of every expression
+pub record Stands (e : Expression) : Type 0 where
+  pub nought : Allows e 0
+  pub down : (u v : ℕ) → u ≤ v → Allows e v → Allows e u
+  pub close : Sound e → Close e (printed e)
+
+-- the printed figure as 64 bits hold it
+abbrev pub held : ℕ → Option ℕ
+held n = cond (ltb n (2 ^ 64)) (Some n) None
+
+abbrev pub figure-of : Expression → Option ℕ
+figure-of (Whole x) = Some (dropped x)
+figure-of (Root x) = Some (R (dropped x))
+figure-of (Sum x y) = held (dropped x + R (dropped y))

@@ -1,0 +1,4 @@
+pub mod Exact
+pub mod Expressions
+pub mod Fractions
+pub mod Roots
