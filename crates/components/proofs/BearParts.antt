@@ -1,0 +1,69 @@
+-- The parts of a bearing total stay within 64 bits.
+use mathlib.Core.Path.{_≡_, ap, ap₂, _∙_}
+use mathlib.Core.Bool.{Bool, true, _&&_}
+use Prim.Native.Nat.{ℕ, _*_, _≤_, _<_, _^_}
+use lib.Dec.{leb}
+use native.Mathlib.Nat.{mul-le-mul}
+use native.Mathlib.Omega.{arith}
+use Rattle.std.proofs.shelf.Tests.{and-parts, leb-true}
+use Rattle.resistance.specs.Fractions.{_÷_, _⊗_, smaller}
+use Rattle.resistance.specs.declared.ratio.Ratio.{Ratio}
+use Rattle.resistance.proofs.Ratios.{smaller-over, smaller-under}
+use Rattle.components.specs.Bears.{workable, most, c, bear-of}
+use Rattle.components.specs.Tabled.{fu, fub}
+use Rattle.components.specs.declared.bearing.Bearing.{Bearing}
+
+-- what workable says, as plain facts
+pub record Limits (b : Bearing) (x α : Ratio) : Type 0 where
+  pub bolts : b .bolts ≤ 20
+  pub bolt : b .bolt ≤ 30
+  pub thickness : b .thickness ≤ 400
+  pub x-over : x .over ≤ 10000
+  pub x-under : x .under ≤ 10000
+  pub α-over : α .over ≤ 10000
+  pub α-under : α .under ≤ 10000
+
+pub limits : (b : Bearing) (x α : Ratio) → workable b x α ≡ true → Limits b x α
+limits b x α h =
+    let p1 = and-parts (leb (b .bolts) 20) _ h in
+    let p2 = and-parts (leb (b .bolt) 30) _ (p1 .1) in
+    let p3 = and-parts (leb (b .thickness) 400) _ (p2 .1) in
+    let p4 = and-parts (leb (x .over) 10000) _ (p3 .1) in
+    let p5 = and-parts (leb (x .under) 10000) _ (p4 .1) in
+    let p6 = and-parts (leb (α .over) 10000) (leb (α .under) 10000) (p5 .1) in
+    record {
+      bolts = leb-true _ _ (p1 .0);
+      bolt = leb-true _ _ (p2 .0);
+      thickness = leb-true _ _ (p3 .0);
+      x-over = leb-true _ _ (p4 .0);
+      x-under = leb-true _ _ (p5 .0);
+      α-over = leb-true _ _ (p6 .0);
+      α-under = leb-true _ _ (p6 .1);
+    }
+
+-- the product before the factors
+pub whole-part : (m fu d t : ℕ) → m ≤ 20 → fu ≤ 540 → d ≤ 30 → t ≤ 400 → 2 * m * fu * d * t ≤ 259200000
+whole-part m fu d t hm hf hd ht = let e = mul-le-mul (mul-le-mul (mul-le-mul hm hf) hd) ht in omega arith
+
+-- the capped factors
+pub k-over : (x : Ratio) → x .over ≤ 10000 → smaller x most .over ≤ 10000
+k-over x h = smaller-over x most 10000 h (omega arith)
+
+pub k-under : (x : Ratio) → x .under ≤ 10000 → smaller x most .under ≤ 10000
+k-under x h = smaller-under x most 10000 h (omega arith)
+
+pub α-over : (α : Ratio) (fub fu : ℕ) → fub ≤ 1000 → fu ≤ 540 → α .over ≤ 10000 → smaller α (c fub fu) .over ≤ 10000
+α-over α fub fu h₁ h₂ h = smaller-over α (c fub fu) 10000 h (smaller-over (fub ÷ fu) (1 ÷ 1) 10000 (omega arith) (omega arith))
+
+pub α-under : (α : Ratio) (fub fu : ℕ) → fub ≤ 1000 → fu ≤ 540 → α .under ≤ 10000 → smaller α (c fub fu) .under ≤ 10000
+α-under α fub fu h₁ h₂ h = smaller-under α (c fub fu) 10000 h (smaller-under (fub ÷ fu) (1 ÷ 1) 10000 (omega arith) (omega arith))
+
+-- the total from its parts, one after the other
+pub total-is : (b : Bearing) (x α cap kk aa t r : Ratio) (f fb : ℕ) → f ≡ fu (b .steel) → fb ≡ fub (b .grade) → cap ≡ smaller (fb ÷ f) (1 ÷ 1) →
+    kk ≡ smaller x most → t ≡ ((2 * b .bolts * f * b .bolt * b .thickness) ÷ 25) ⊗ kk → aa ≡ smaller α cap → r ≡ t ⊗ aa → r ≡ bear-of b x α
+total-is b x α cap kk aa t r f fb f-is fb-is cap-is kk-is t-is aa-is r-is =
+    let n : ℕ → Ratio = λ f. (2 * b .bolts * f * b .bolt * b .thickness) ÷ 25 in
+    let cap′ : cap ≡ c (fub (b .grade)) (fu (b .steel)) = cap-is ∙ ap₂ (λ (p q : ℕ). c p q) fb-is f-is in
+    let t′ : t ≡ n (fu (b .steel)) ⊗ smaller x most = t-is ∙ ap₂ (λ (p : ℕ) (q : Ratio). n p ⊗ q) f-is kk-is in
+    let aa′ : aa ≡ smaller α (c (fub (b .grade)) (fu (b .steel))) = aa-is ∙ ap (smaller α) cap′ in
+    r-is ∙ ap₂ (λ (p q : Ratio). p ⊗ q) t′ aa′

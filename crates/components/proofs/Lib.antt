@@ -1,0 +1,2 @@
+pub mod BearParts
+pub mod Listed

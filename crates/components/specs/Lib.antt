@@ -1,0 +1,2 @@
+pub mod Bears
+pub mod Tabled
