@@ -1,0 +1,5 @@
+pub mod Admits
+pub mod Expressed
+pub mod Lowest
+pub mod Quotes
+pub mod Turns

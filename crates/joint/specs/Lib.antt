@@ -1,0 +1,7 @@
+pub mod Admission
+pub mod Checked
+pub mod Codes
+pub mod Govern
+pub mod Meaning
+pub mod Modes
+pub mod Sheets
