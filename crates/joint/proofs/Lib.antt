@@ -1,4 +1,5 @@
 pub mod Admits
+pub mod BitSet
 pub mod Expressed
 pub mod Lowest
 pub mod Quotes

@@ -5,3 +5,4 @@ pub mod Govern
 pub mod Meaning
 pub mod Modes
 pub mod Sheets
+pub mod Unmet

@@ -3,5 +3,6 @@ pub mod checks;
 pub mod fault;
 pub mod govern;
 pub mod kind;
+pub mod requirements;
 pub mod sheet;
 pub mod work;
