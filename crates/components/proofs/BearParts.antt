@@ -1,15 +1,16 @@
 -- The parts of a bearing total stay within 64 bits.
 use mathlib.Core.Path.{_≡_, ap, ap₂, _∙_}
-use mathlib.Core.Bool.{Bool, true, _&&_}
-use Prim.Native.Nat.{ℕ, _*_, _≤_, _<_, _^_}
+use mathlib.Core.Bool.{true, _&&_}
+use Prim.Native.Nat.{ℕ, _-_, _*_, _≤_, _<_, _^_}
 use lib.Dec.{leb}
-use native.Mathlib.Nat.{mul-le-mul}
+use native.Mathlib.Nat.{mul-le-mul, mul-pos}
 use native.Mathlib.Omega.{arith}
-use Rattle.std.proofs.shelf.Tests.{and-parts, leb-true}
+use Rattle.std.specs.declared.option.Option.the-variants.{Some, None}
+use Rattle.std.proofs.shelf.Tests.{and-parts, and-from, leb-true, le-leb, cond-true}
 use Rattle.resistance.specs.Fractions.{_÷_, _⊗_, smaller}
 use Rattle.resistance.specs.declared.ratio.Ratio.{Ratio}
-use Rattle.resistance.proofs.Ratios.{smaller-over, smaller-under}
-use Rattle.components.specs.Bears.{workable, most, c, bear-of}
+use Rattle.resistance.proofs.Ratios.{Proper, smaller-proper, smaller-over, smaller-under}
+use Rattle.components.specs.Bears.{k, u, w, workable, most, c, bear-of, total-of}
 use Rattle.components.specs.Tabled.{fu, fub}
 use Rattle.components.specs.declared.bearing.Bearing.{Bearing}
 
@@ -67,3 +68,40 @@ total-is b x α cap kk aa t r f fb f-is fb-is cap-is kk-is t-is aa-is r-is =
     let t′ : t ≡ n (fu (b .steel)) ⊗ smaller x most = t-is ∙ ap₂ (λ (p : ℕ) (q : Ratio). n p ⊗ q) f-is kk-is in
     let aa′ : aa ≡ smaller α (c (fub (b .grade)) (fu (b .steel))) = aa-is ∙ ap (smaller α) cap′ in
     r-is ∙ ap₂ (λ (p q : Ratio). p ⊗ q) t′ aa′
+
+-- numbers within the limits are workable
+pub workable-within : (b : Bearing) (x α : Ratio) → Limits b x α → workable b x α ≡ true
+workable-within b x α l =
+    and-from _ _ (le-leb _ _ (l .bolts)) (and-from _ _ (le-leb _ _ (l .bolt)) (and-from _ _ (le-leb _ _ (l .thickness))
+    (and-from _ _ (le-leb _ _ (l .x-over)) (and-from _ _ (le-leb _ _ (l .x-under)) (and-from _ _ (le-leb _ _ (l .α-over)) (le-leb _ _ (l .α-under)))))))
+
+-- and their total is the bearing total
+pub total-known : (b : Bearing) (x α : Ratio) {b′ : Bearing} {x′ α′ : Ratio} → b′ ≡ b → x′ ≡ x → α′ ≡ α → Limits b x α → total-of b′ x′ α′ ≡ Some (bear-of b x α)
+total-known b x α {b′} {x′} {α′} eb ex eα l =
+    ap (λ (y : Bearing). total-of y x′ α′) eb ∙ ap₂ (λ (y z : Ratio). total-of b y z) ex eα ∙ cond-true _ (Some (bear-of b x α)) None (workable-within b x α l)
+
+-- the factors of distances up to 200 mm round a hole up to 33 mm lie within the limits
+pub record Small (x : Ratio) : Type 0 where
+  pub over : x .over ≤ 10000
+  pub under : x .under ≤ 10000
+
+pub k-small : (d₀ e : ℕ) → d₀ ≤ 33 → e ≤ 200 → Small (k d₀ e)
+k-small d₀ e h l = record { over = omega arith; under = omega arith }
+
+pub u-small : (d₀ e : ℕ) → d₀ ≤ 33 → e ≤ 200 → Small (u d₀ e)
+u-small d₀ e h l = record { over = omega arith; under = omega arith }
+
+pub w-small : (d₀ p : ℕ) → d₀ ≤ 33 → p ≤ 200 → Small (w d₀ p)
+w-small d₀ p h l = record { over = omega arith; under = omega arith }
+
+pub most-small : Small most
+most-small = record { over = omega arith; under = omega arith }
+
+pub smaller-small : (x y : Ratio) → Small x → Small y → Small (smaller x y)
+smaller-small x y p q = record { over = smaller-over x y 10000 (p .over) (q .over); under = smaller-under x y 10000 (p .under) (q .under) }
+
+-- a bearing total of proper factors is a proper fraction
+pub bear-proper : (b : Bearing) (x α : Ratio) → 0 < fu (b .steel) → Proper x → Proper α → Proper (bear-of b x α)
+bear-proper b x α f p q =
+    mul-pos (mul-pos {m = 25} (omega arith) (smaller-proper x most p (omega arith)))
+    (smaller-proper α (c (fub (b .grade)) (fu (b .steel))) q (smaller-proper (fub (b .grade) ÷ fu (b .steel)) (1 ÷ 1) f (omega arith)))

@@ -11,15 +11,15 @@ use Rattle.std.specs.declared.option.Option.the-variants.{Some, None}
 use Rattle.std.specs.declared.result.Result.{Result}
 use Rattle.std.specs.declared.result.Result.the-variants.{Ok}
 use Rattle.std.proofs.shelf.Tests.{cond-both}
-use Rattle.resistance.specs.Expressions.{printed, Allows, Sound, Close, margin}
+use Rattle.resistance.specs.Expressions.{printed, figure-of, Allows, margin}
 use Rattle.resistance.specs.declared.expression.Expression.{Expression}
 use Rattle.resistance.proofs.Readings.{close, zero-allowed, smaller-allowed}
 use Rattle.joint.specs.Meaning.{Meaning}
-use Rattle.joint.specs.Modes.{numbered, mode-in, printing, Below, SoundMode, AllSound}
+use Rattle.joint.specs.Modes.{numbered, mode-in, printing, Below, Every, SoundMode, HeldMode}
 use Rattle.joint.specs.declared.fault.JointFault.{JointFault}
 use Rattle.joint.proofs.Lowest.{none-some}
 
-abbrev some-of : Option Expression → Bool
+abbrev pub some-of : Option Expression → Bool
 some-of None = false
 some-of (Some e) = true
 
@@ -40,9 +40,24 @@ agree-at n i (m ∷ ms) (b ∷ bs) h = go (eqb i n) (agree-at (n + 1) i ms bs (h
     go true later = h .0
     go false later = later
 
-sound-at : (n i : ℕ) (ms : List (Option Expression)) → AllSound ms → SoundMode (numbered None n ms i)
-sound-at n i [] h = tt
-sound-at n i (m ∷ ms) h = cond-both (eqb i n) m (numbered None (n + 1) ms i) SoundMode (λ _. h .0) (λ _. sound-at (n + 1) i ms (h .1))
+-- a rule on one mode
+pub some-cond : (b : Bool) (e : Expression) → some-of (cond b (Some e) None) ≡ b
+some-cond true e = refl
+some-cond false e = refl
+
+every-at : (P : Option Expression → Type 0) → P None → (n i : ℕ) (ms : List (Option Expression)) → Every P ms → P (numbered None n ms i)
+every-at P none n i [] h = none
+every-at P none n i (m ∷ ms) h = cond-both (eqb i n) m (numbered None (n + 1) ms i) P (λ _. h .0) (λ _. every-at P none (n + 1) i ms (h .1))
+
+-- what holds of every mode holds of the mode asked for
+pub every-mode : (P : Option Expression → Type 0) → P None → (shear tying : List (Option Expression)) → Every P shear → Every P tying → (i : ℕ) → P (mode-in None shear tying i)
+every-mode P none shear tying hs ht i =
+    cond-both (ltb i 21) (numbered None 1 shear i) (numbered None 21 tying i) P (λ _. every-at P none 1 i shear hs) (λ _. every-at P none 21 i tying ht)
+
+-- the figure that is answered is the one printed
+pub figure-is : (m : Option Expression) (e : Expression) → HeldMode m → m ≡ Some e → figure-of e ≡ printing m
+figure-is None e h is = let z : _≡_ {A = ℕ} 0 1 = cc in absurd (omega arith)
+figure-is (Some x) e h is = let same : x ≡ e = cc in subst (λ (y : Expression). figure-of y ≡ Some (printed x)) same h
 
 -- of one mode
 bound-some : (m : Option Expression) → some-of m ≡ true → (v : ℕ) × (printing m ≡ Some v)
@@ -71,7 +86,7 @@ printed-near (Some e) v s h b = let is : printed e ≡ v = cc in close e s .abov
 
 module _ {J : Type 0} (shear tying : J → List (Option Expression)) (shear-binds tying-binds : J → List Bool)
     (agree : (j : J) → Agree (shear j) (shear-binds j) × Agree (tying j) (tying-binds j))
-    (sound : (j : J) → AllSound (shear j) × AllSound (tying j)) where
+    (sound : (j : J) → Every SoundMode (shear j) × Every SoundMode (tying j)) where
   abbrev mode : J → ℕ → Option Expression
   mode j i = mode-in None (shear j) (tying j) i
 
@@ -86,9 +101,7 @@ module _ {J : Type 0} (shear tying : J → List (Option Expression)) (shear-bind
       go false = agree-at 21 i (tying j) (tying-binds j) (agree j .1)
 
   mode-sound : (j : J) (i : ℕ) → SoundMode (mode j i)
-  mode-sound j i =
-      cond-both (ltb i 21) (numbered None 1 (shear j) i) (numbered None 21 (tying j) i) SoundMode
-      (λ _. sound-at 1 i (shear j) (sound j .0)) (λ _. sound-at 21 i (tying j) (sound j .1))
+  mode-sound j i = every-mode SoundMode tt (shear j) (tying j) (sound j .0) (sound j .1) i
 
   -- the counts, the facts of admission and that mode 1 binds are the kind's own
   pub means : {R : Type 0} (fields n m : ℕ) (admission : R → Result J JointFault) (joint : J → R) → 1 ≤ fields → 1 ≤ n → n ≤ 20 → m ≤ 20 →

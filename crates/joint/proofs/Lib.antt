@@ -2,5 +2,6 @@ pub mod Admits
 pub mod BitSet
 pub mod Expressed
 pub mod Lowest
+pub mod Numbered
 pub mod Quotes
 pub mod Turns

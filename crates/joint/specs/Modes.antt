@@ -5,7 +5,8 @@ use mathlib.Core.List.{List, [], _∷_}
 use lib.Dec.{eqb, ltb}
 use Rattle.std.specs.declared.option.Option.{Option}
 use Rattle.std.specs.declared.option.Option.the-variants.{Some, None}
-use Rattle.resistance.specs.Expressions.{printed, Allows, Sound}
+use mathlib.Core.Path.{_≡_}
+use Rattle.resistance.specs.Expressions.{printed, figure-of, Allows, Sound}
 use Rattle.resistance.specs.declared.expression.Expression.{Expression}
 
 -- the entry with the number i of a list that counts from n; 'none' past its end
@@ -27,11 +28,17 @@ abbrev pub Below : Option Expression → ℕ → Type 0
 Below None v = ⊥
 Below (Some e) v = Allows e v
 
--- no mode that binds has a fraction over 0
+-- a fact of every mode of a list
+abbrev pub Every : (Option Expression → Type 0) → List (Option Expression) → Type 0
+Every P [] = Unit {0}
+Every P (m ∷ ms) = P m × Every P ms
+
+-- a mode that binds has no fraction over 0
 abbrev pub SoundMode : Option Expression → Type 0
 SoundMode None = Unit {0}
 SoundMode (Some e) = Sound e
 
-abbrev pub AllSound : List (Option Expression) → Type 0
-AllSound [] = Unit {0}
-AllSound (m ∷ ms) = SoundMode m × AllSound ms
+-- 64 bits hold the figure of a mode that binds
+abbrev pub HeldMode : Option Expression → Type 0
+HeldMode None = Unit {0}
+HeldMode (Some e) = figure-of e ≡ Some (printed e)

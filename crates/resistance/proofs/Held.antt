@@ -1,14 +1,21 @@
 -- What 64 bits hold of a sum.
 use mathlib.Core.Path.{_≡_, refl, sym, ap, _∙_}
 use mathlib.Core.Logic.{inl, inr}
-use Prim.Native.Nat.{ℕ, _^_, _<_, _≤_}
+use Prim.Native.Nat.{ℕ, _+_, _/_, _^_, _<_, _≤_}
 use lib.Dec.{ltb}
 use native.Mathlib.Omega.{arith}
 use Rattle.std.specs.Numbers.{Checked}
 use Rattle.std.specs.declared.option.Option.{Option}
 use Rattle.std.specs.declared.option.Option.the-variants.{Some, None}
 use Rattle.std.proofs.shelf.Tests.{cases-lt, lt-ltb, le-ltb, cond-true, cond-false}
-use Rattle.resistance.specs.Expressions.{held}
+use native.Mathlib.Nat.{div-le-self}
+use Rattle.resistance.specs.Expressions.{held, figure-of, printed}
+use Rattle.resistance.specs.Fractions.{dropped}
+use Rattle.resistance.specs.Roots.{R}
+use Rattle.resistance.specs.declared.expression.Expression.the-variants.{Sum}
+use Rattle.resistance.specs.declared.ratio.Ratio.{Ratio}
+use Rattle.resistance.proofs.RootWords.{R-is}
+use Rattle.resistance.proofs.Squares.{le-of-sq}
 
 pub held-small : (n : ℕ) → n < 2 ^ 64 → held n ≡ Some n
 held-small n h = cond-true _ (Some n) None (lt-ltb n (2 ^ 64) h)
@@ -19,3 +26,14 @@ held-large n h = cond-false _ (Some n) None (le-ltb n (2 ^ 64) h)
 pub checked-held : (o : Option ℕ) (n : ℕ) → Checked o (n < 2 ^ 64) n → o ≡ held n
 checked-held None n h = elim (cases-lt n (2 ^ 64)) [ inl k ↦ absurd (h k) | inr k ↦ sym (held-large n k) ]
 checked-held (Some m) n (k, e) = ap Some e ∙ sym (held-small n k)
+
+R-most : (q : ℕ) → R q ≤ q
+R-most q = let k = R-is q in le-of-sq {a = R q} {b = q} (omega arith)
+
+-- 64 bits hold a sum of two parts of 63
+pub sum-held : (x y : Ratio) → x .over < 2 ^ 63 → y .over < 2 ^ 63 → figure-of (Sum x y) ≡ Some (printed (Sum x y))
+sum-held x y h k =
+    let a = div-le-self (x .over) (x .under) in
+    let b = div-le-self (y .over) (y .under) in
+    let c = R-most (dropped y) in
+    held-small (dropped x + R (dropped y)) (omega arith)

@@ -7,6 +7,7 @@ use Rattle.std.specs.declared.option.Option.the-variants.{Some, None}
 use Rattle.std.proofs.shelf.Tests.{cond-true}
 use Rattle.resistance.specs.Fractions.{smaller}
 use Rattle.resistance.specs.declared.ratio.Ratio.{Ratio}
+use Rattle.components.specs.Bears.{workable, bear-of}
 use Rattle.components.proofs.BearParts.{limits, whole-part, k-over, k-under, α-over, α-under, total-is}
 use Rattle.components.proofs.bearing.Bearing.total.Needs as need
 
@@ -48,4 +49,4 @@ returns c =
     let is = total-is (c .args .self .now) (c .args .k) (c .args .a) (c .lesser-cap .result) (c .lesser .result) (c .lesser-2 .result) (c .times .result) (c .times-2 .result)
         (c .ultimate-strength-fu .result) (c .bolt-strength-fub .result) (c .ultimate-strength-fu .ensures .value) (c .bolt-strength-fub .ensures .value)
         (c .lesser-cap .ensures) (c .lesser .ensures) (c .times .ensures) (c .lesser-2 .ensures) (c .times-2 .ensures) in
-    ap Some is ∙ sym (cond-true _ _ None (sym (c .if-not-is-workable .ensures tt)))
+    ap Some is ∙ sym (cond-true (workable (c .args .self .now) (c .args .k) (c .args .a)) (Some (bear-of (c .args .self .now) (c .args .k) (c .args .a))) None (sym (c .if-not-is-workable .ensures tt)))

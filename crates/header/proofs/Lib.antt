@@ -1,0 +1,5 @@
+pub mod Bears
+pub mod HeaderMeans
+pub mod Ranges
+pub mod Sizes
+pub mod Tried

@@ -1,0 +1,4 @@
+pub mod FieldChecks
+pub mod HeaderAdmission
+pub mod HeaderModes
+pub mod HeaderRequirements

@@ -1,0 +1,7 @@
+// Header plates: what a card says, what the sheet admits, the modes, the requirements and what the figures mean.
+mod admission;
+pub mod header;
+pub mod joint;
+pub mod kind;
+mod modes;
+mod unmet;
