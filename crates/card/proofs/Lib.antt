@@ -1,0 +1,5 @@
+pub mod OneLine
+pub mod Steps
+pub mod Laws
+pub mod Spread
+pub mod Joints

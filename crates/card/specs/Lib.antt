@@ -1,0 +1,5 @@
+pub mod Codes
+pub mod Text
+pub mod Kinds
+pub mod Headers
+pub mod Cards
