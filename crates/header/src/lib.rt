@@ -4,4 +4,5 @@ pub mod header;
 pub mod joint;
 pub mod kind;
 mod modes;
+pub mod sheet;
 mod unmet;

@@ -6,6 +6,9 @@ use mathlib.Core.Path.{_≡_}
 use lib.Count.{ones}
 use Rattle.resistance.specs.Expressions.{margin}
 use Rattle.joint.specs.Govern.{lowest, nobody}
+use Rattle.std.specs.declared.result.Result.{Result}
+use Rattle.std.specs.declared.result.Result.the-variants.{Ok, Err}
+use Rattle.joint.specs.declared.fault.JointFault.{JointFault}
 use Rattle.joint.specs.declared.kind.Kind.{Ghosts}
 use Rattle.joint.specs.declared.sheet.Governing.{Governing}
 use Rattle.joint.specs.declared.sheet.Sheet.{Sheet}
@@ -45,3 +48,11 @@ module _ {J R : Type 0} (k : Ghosts J R) (j : J) where
   pub record Quoted (s : Sheet) : Type 0 where
     pub shear : Quotable 1 (k .shear) (s .shear)
     pub tying : Quotable 21 (k .tying) (s .tying) ⊎ Unbound 21 (k .tying) (s .tying)
+
+-- the sheet of what a card says, or the first fault of its joint
+abbrev pub sheet-if : {J R : Type 0} → Ghosts J R → Result J JointFault → Result Sheet JointFault
+sheet-if k (Ok j) = Ok (sheet-of k j)
+sheet-if k (Err f) = Err f
+
+abbrev pub judged : {J R : Type 0} → Ghosts J R → R → Result Sheet JointFault
+judged k r = sheet-if k (k .admission r)

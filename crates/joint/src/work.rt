@@ -1,8 +1,9 @@
 // The sheet of an admitted joint.
 ghost use mathlib.Core.Path.{_≡_};
-ghost use Rattle.joint.specs.Sheets.{sheet-of, Quoted};
+ghost use Rattle.joint.specs.Sheets.{sheet-of, judged, Quoted};
 use crate::govern::shear_governed;
 use crate::govern::tying_governed;
+use crate::fault::JointFault;
 use crate::kind::Kind;
 use crate::sheet::Sheet;
 
@@ -21,5 +22,15 @@ pub fn worked_sheet<K: Kind>(joint: &K) -> Sheet
         class: (shear.figure / 50000).min(255) as u8,
         unmet,
         count: unmet.count_ones(),
+    }
+}
+
+// The sheet of what a card says, or the first fault of its joint.
+pub fn judged_sheet<K: Kind>(given: K::Joint) -> Result<Sheet, JointFault>
+    ensures { λ r. ⌜ r ≡ judged K·Kind given ⌝ }
+{
+    match K::admit(given) {
+        Ok(joint) => Ok(worked_sheet(&joint)),
+        Err(fault) => Err(fault),
     }
 }
