@@ -3,3 +3,4 @@ pub mod Text
 pub mod Kinds
 pub mod Headers
 pub mod Cards
+pub mod Reference

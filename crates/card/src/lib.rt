@@ -4,3 +4,4 @@ pub mod fault;
 pub mod header_card;
 pub mod kind;
 mod lines;
+pub mod reference;

@@ -1,7 +1,7 @@
 // The sheet of a header plate, from what its card says.
 ghost use mathlib.Core.Path.{_≡_};
 ghost use Rattle.header.specs.HeaderKinds.{header-kind};
-ghost use Rattle.joint.specs.Sheets.{judged};
+ghost use Rattle.joint.specs.Sheets.{judged, QuotedCard};
 use crate::header::Header;
 use crate::joint::HeaderJoint;
 use crate::kind::HeaderKind;
@@ -11,7 +11,8 @@ use joint::work::judged_sheet;
 
 // The sheet, or the first fault of the joint.
 pub fn header_sheet(given: HeaderJoint) -> Result<Sheet, JointFault>
-    ensures { λ r. ⌜ r ≡ judged header-kind given ⌝ }
+    ensures value { λ r. ⌜ r ≡ judged header-kind given ⌝ }
+    ensures quoted { λ r. ⌜ QuotedCard header-kind given r ⌝ }
 {
     judged_sheet::<Header>(given)
 }

@@ -56,3 +56,8 @@ sheet-if k (Err f) = Err f
 
 abbrev pub judged : {J R : Type 0} → Ghosts J R → R → Result Sheet JointFault
 judged k r = sheet-if k (k .admission r)
+
+-- what a card's answer is worth: the joint is admitted and its sheet may be quoted, or it is refused
+abbrev pub QuotedCard : {J R : Type 0} → Ghosts J R → R → Result Sheet JointFault → Type 0
+QuotedCard {J} k r (Ok s) = (j : J) × (k .admission r ≡ Ok j) × Quoted k j s
+QuotedCard k r (Err f) = k .admission r ≡ Err f

@@ -1,6 +1,6 @@
 // The sheet of an admitted joint.
 ghost use mathlib.Core.Path.{_≡_};
-ghost use Rattle.joint.specs.Sheets.{sheet-of, judged, Quoted};
+ghost use Rattle.joint.specs.Sheets.{sheet-of, judged, Quoted, QuotedCard};
 use crate::govern::shear_governed;
 use crate::govern::tying_governed;
 use crate::fault::JointFault;
@@ -25,9 +25,10 @@ pub fn worked_sheet<K: Kind>(joint: &K) -> Sheet
     }
 }
 
-// The sheet of what a card says, or the first fault of its joint.
+// The sheet of what a card says, or the first fault of its joint. What a sheet quotes holds of the joint that the card describes.
 pub fn judged_sheet<K: Kind>(given: K::Joint) -> Result<Sheet, JointFault>
-    ensures { λ r. ⌜ r ≡ judged K·Kind given ⌝ }
+    ensures value { λ r. ⌜ r ≡ judged K·Kind given ⌝ }
+    ensures quoted { λ r. ⌜ QuotedCard K·Kind given r ⌝ }
 {
     match K::admit(given) {
         Ok(joint) => Ok(worked_sheet(&joint)),
