@@ -2,11 +2,11 @@
 ghost use Rattle.std.specs.Of.String.{string-bytes};
 ghost use Rattle.std.specs.Vec.{made};
 ghost use Rattle.account.specs.Accounts.{Account};
-use card::card::read_card;
 use crate::entry::Entry;
 use crate::entry::judge;
 use crate::fault::Fault;
 use crate::fault::FaultFromText;
+use card::card::read_card;
 use std::alloc::AllocError;
 use std::alloc::Global;
 

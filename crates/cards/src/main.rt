@@ -12,7 +12,10 @@ fn run(rt: &LibcRuntime) -> Result<(), AnyError> {
     rt.stdin().take(MOST as u64 + 1).read_to_end(&mut text)?;
     let mut cards = text.as_slice();
     if cards.len() > MOST {
-        eprintln!(rt, "cards: only the first {MOST} bytes of the input are looked at")?;
+        eprintln!(
+            rt,
+            "cards: only the first {MOST} bytes of the input are looked at"
+        )?;
         cards = &cards[0..MOST];
     }
     let lines = account(heap, cards)?;

@@ -88,7 +88,10 @@ impl Bearing {
         }
         let fu = ultimate_strength(self.steel) as u64;
         let fub = bolt_strength(self.grade) as u64;
-        let cap = Ratio { over: fub, under: fu }.lesser(ONE);
+        let cap = Ratio {
+            over: fub,
+            under: fu,
+        }.lesser(ONE);
         let all = Ratio {
             over: 2 * self.bolts as u64 * fu * self.bolt as u64 * self.thickness as u64,
             under: 25,

@@ -5,22 +5,52 @@ ghost use Rattle.components.specs.Tabled.{fu, weld-factor, hole-of, shank-of, 
 use crate::rows::row_of;
 
 // A steel goes by its yield strength fy, N/mm².
-const ULTIMATE_STRENGTHS: [(u32, u32); 5] = [(235, 360), (275, 430), (355, 510), (420, 520), (460, 540)];
+const ULTIMATE_STRENGTHS: [(u32, u32); 5] = [
+    (235, 360),
+    (275, 430),
+    (355, 510),
+    (420, 520),
+    (460, 540),
+];
 
 const WELD_FACTORS: [(u32, u32); 5] = [(235, 80), (275, 85), (355, 90), (420, 100), (460, 100)];
 
 const BOLT_STRENGTHS: [(u32, u32); 5] = [(46, 400), (56, 500), (68, 600), (88, 800), (109, 1000)];
 
 const HOLES: [(u32, u32); 9] = [
-    (12, 13), (14, 15), (16, 18), (18, 20), (20, 22), (22, 24), (24, 26), (27, 30), (30, 33),
+    (12, 13),
+    (14, 15),
+    (16, 18),
+    (18, 20),
+    (20, 22),
+    (22, 24),
+    (24, 26),
+    (27, 30),
+    (30, 33),
 ];
 
 const SHANK_AREAS: [(u32, u32); 9] = [
-    (12, 113), (14, 154), (16, 201), (18, 254), (20, 314), (22, 380), (24, 452), (27, 573), (30, 707),
+    (12, 113),
+    (14, 154),
+    (16, 201),
+    (18, 254),
+    (20, 314),
+    (22, 380),
+    (24, 452),
+    (27, 573),
+    (30, 707),
 ];
 
 const STRESS_AREAS: [(u32, u32); 9] = [
-    (12, 84), (14, 115), (16, 157), (18, 192), (20, 245), (22, 303), (24, 353), (27, 459), (30, 561),
+    (12, 84),
+    (14, 115),
+    (16, 157),
+    (18, 192),
+    (20, 245),
+    (22, 303),
+    (24, 353),
+    (27, 459),
+    (30, 561),
 ];
 
 // The ultimate strength fu of a steel, N/mm².
@@ -76,7 +106,11 @@ pub fn shear_area(bolt: u32, plane: u32) -> u32
     ensures value { λ r. ⌜ r ≡ area-of bolt plane ⌝ }
     ensures bound { λ r. ⌜ r ≤ 707 ⌝ }
 {
-    if plane == 0 { shank_area(bolt) } else { stress_area(bolt) }
+    if plane == 0 {
+        shank_area(bolt)
+    } else {
+        stress_area(bolt)
+    }
 }
 
 // The shear factor of a bolt, tenths: 5 for the classes 6.8 and 10.9 with the thread in the shear plane, otherwise 6.
@@ -84,5 +118,9 @@ pub fn shear_factor(grade: u32, plane: u32) -> u32
     ensures value { λ r. ⌜ r ≡ shear-of grade plane ⌝ }
     ensures bound { λ r. ⌜ r ≤ 6 ⌝ }
 {
-    if (grade == 68 || grade == 109) && plane == 1 { 5 } else { 6 }
+    if (grade == 68 || grade == 109) && plane == 1 {
+        5
+    } else {
+        6
+    }
 }

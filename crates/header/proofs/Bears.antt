@@ -22,8 +22,13 @@ module _ (j : HeaderJoint) (a : Admitted j) where
       let x = k-small d₀ (j .layout .e2) (a .bolt .bound) (omega arith) in
       let α = smaller-small (u d₀ (j .layout .e1)) (w d₀ (j .layout .p1)) (u-small d₀ (j .layout .e1) (a .bolt .bound) (omega arith)) (w-small d₀ (j .layout .p1) (a .bolt .bound) (a .p1-high)) in
       record {
-        bolts = omega arith; bolt = a .bolt .high; thickness = omega arith;
-        x-over = x .over; x-under = x .under; α-over = α .over; α-under = α .under;
+        bolts = omega arith;
+        bolt = a .bolt .high;
+        thickness = omega arith;
+        x-over = x .over;
+        x-under = x .under;
+        α-over = α .over;
+        α-under = α .under;
       }
 
   pub support-limits : Limits (on-support j) (support-edge j) (w d₀ (j .layout .p1))
@@ -31,6 +36,11 @@ module _ (j : HeaderJoint) (a : Admitted j) where
       let x = cond-both (eqb (j .parts .es) 0) most (k d₀ (j .parts .es)) Small (λ _. most-small) (λ _. k-small d₀ (j .parts .es) (a .bolt .bound) (omega arith)) in
       let α = w-small d₀ (j .layout .p1) (a .bolt .bound) (a .p1-high) in
       record {
-        bolts = omega arith; bolt = a .bolt .high; thickness = a .ts-high;
-        x-over = x .over; x-under = x .under; α-over = α .over; α-under = α .under;
+        bolts = omega arith;
+        bolt = a .bolt .high;
+        thickness = a .ts-high;
+        x-over = x .over;
+        x-under = x .under;
+        α-over = α .over;
+        α-under = α .under;
       }

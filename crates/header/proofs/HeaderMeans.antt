@@ -54,9 +54,9 @@ module _ (j : HeaderJoint) (a : Admitted j) where
   unfolding shear-modes
   sound =
       let plate = bear-proper (on-plate j) (k d₀ (j .layout .e2)) (smaller (u d₀ (j .layout .e1)) (w d₀ (j .layout .p1))) (let h = a .plate .worth in omega arith)
-          (k-proper (j .layout .e2)) (smaller-proper (u d₀ (j .layout .e1)) (w d₀ (j .layout .p1)) (u-proper (j .layout .e1)) (w-proper (j .layout .p1))) in
+      (k-proper (j .layout .e2)) (smaller-proper (u d₀ (j .layout .e1)) (w d₀ (j .layout .p1)) (u-proper (j .layout .e1)) (w-proper (j .layout .p1))) in
       let support = bear-proper (on-support j) (support-edge j) (w d₀ (j .layout .p1)) (let h = a .supp .worth in omega arith)
-          (cond-both (eqb (j .parts .es) 0) most (k d₀ (j .parts .es)) Proper (λ _. omega arith) (λ _. k-proper (j .parts .es))) (w-proper (j .layout .p1)) in
+      (cond-both (eqb (j .parts .es) 0) most (k d₀ (j .parts .es)) Proper (λ _. omega arith) (λ _. k-proper (j .parts .es))) (w-proper (j .layout .p1)) in
       let bending = cond-both (shallow j) (Some (plate-bending j)) None SoundMode (λ _. let h = a .bolt .worth in omega arith) (λ _. tt) in
       (omega arith, (plate, (support, (omega arith, (omega arith, ((omega arith, omega arith), (bending, (omega arith, tt))))))))
 

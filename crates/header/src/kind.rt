@@ -62,7 +62,11 @@ pub impl Kind for Header as HeaderKind {
     }
 
     fn binds(&self, mode: u32) -> bool {
-        if mode == 7 { self.is_shallow() } else { is_within(1, 8, mode) }
+        if mode == 7 {
+            self.is_shallow()
+        } else {
+            is_within(1, 8, mode)
+        }
     }
 
     fn figure(&self, mode: u32) -> Option<u64> {

@@ -3,6 +3,7 @@ ghost use Prim.Native.Nat.{_≤_};
 ghost use mathlib.Core.Path.{_≡_};
 ghost use Rattle.std.specs.declared.option.Option.the-variants.{Some};
 ghost use Rattle.header.specs.HeaderModes.{bolts-of, depth-of, net-of, torn-of, shallow, sides-of, on-plate, on-support, support-edge, bolt-shear, plate-bearing, support-bearing, gross-plate, net-plate, block-tearing, plate-bending, beam-web, header-mode};
+use crate::header::Header;
 use components::bearing::Bearing;
 use components::bearing::edge_factor;
 use components::bearing::end_factor;
@@ -12,7 +13,6 @@ use components::tables::hole;
 use components::tables::shear_area;
 use components::tables::shear_factor;
 use components::tables::ultimate_strength;
-use crate::header::Header;
 use resistance::expression::Expression;
 use resistance::ratio::Ratio;
 
@@ -52,7 +52,9 @@ impl Header {
         ensures bound { λ r. ⌜ r ≤ 4200 ⌝ }
     {
         let b = self.joint.bolts;
-        2 * self.depth() - 2 * self.joint.layout.e1 as u64 - (2 * b.rows as u64 - 1) * hole(b.bolt) as u64
+        2 * self.depth()
+            - 2 * self.joint.layout.e1 as u64
+            - (2 * b.rows as u64 - 1) * hole(b.bolt) as u64
     }
 
     // The plate is shallow for its gauge, so that it bends.

@@ -1,10 +1,10 @@
 // The requirements of a header plate.
 ghost use mathlib.Core.Path.{_≡_};
 ghost use Rattle.header.specs.HeaderRequirements.{yields-first, ductile-joint, full-strength, requirements-of};
+use crate::header::Header;
 use components::tables::bolt_strength;
 use components::tables::ultimate_strength;
 use components::tables::weld_correlation;
-use crate::header::Header;
 use joint::requirements::Requirements;
 
 impl Header {

@@ -9,7 +9,11 @@ use crate::fault::JointFault;
 pub fn allowed(holds: bool, field: u32) -> Result<(), JointFault>
     ensures { λ r. ⌜ r ≡ due holds (NotAllowed field) ⌝ }
 {
-    if holds { Ok(()) } else { Err(JointFault::NotAllowed(field)) }
+    if holds {
+        Ok(())
+    } else {
+        Err(JointFault::NotAllowed(field))
+    }
 }
 
 pub fn is_within(low: u32, high: u32, x: u32) -> bool

@@ -34,8 +34,13 @@ impl Requirements {
         ensures value { λ r. ⌜ r ≡ unmet-of self ⌝ }
         ensures counts { λ r. ⌜ ones r ≡ failing self ⌝ }
     {
-        let plate = power_of(self.fits_web, 1) | power_of(self.turns, 2) | power_of(self.ductile, 4) | power_of(self.welded, 8);
-        let loads = power_of(self.bolts_spared, 16) | power_of(self.carries_shear, 32) | power_of(self.carries_tie, 64);
+        let plate = power_of(self.fits_web, 1)
+            | power_of(self.turns, 2)
+            | power_of(self.ductile, 4)
+            | power_of(self.welded, 8);
+        let loads = power_of(self.bolts_spared, 16)
+            | power_of(self.carries_shear, 32)
+            | power_of(self.carries_tie, 64);
         plate | loads
     }
 }

@@ -1,9 +1,9 @@
 // The sheet of an admitted joint.
 ghost use mathlib.Core.Path.{_≡_};
 ghost use Rattle.joint.specs.Sheets.{sheet-of, judged, Quoted, QuotedCard};
+use crate::fault::JointFault;
 use crate::govern::shear_governed;
 use crate::govern::tying_governed;
-use crate::fault::JointFault;
 use crate::kind::Kind;
 use crate::sheet::Sheet;
 

@@ -19,4 +19,3 @@ le-of-sq {a} {b} h = elim (cases-lt b a) [ inl k ↦ absurd (let g : sq b < sq a
 
 pub lt-of-sq : {a b : ℕ} → sq a < sq b → a < b
 lt-of-sq {a} {b} h = elim (cases-lt a b) [ inl k ↦ k | inr k ↦ absurd (let g : sq b ≤ sq a = sq-mono k in omega arith) ]
-

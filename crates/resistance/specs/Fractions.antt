@@ -7,7 +7,6 @@ use Rattle.resistance.specs.declared.ratio.Ratio.{Ratio}
 infix 40 _÷_
 infixl 35 _⊗_
 infix 30 _≼_
-
 abbrev pub _÷_ : ℕ → ℕ → Ratio
 a ÷ b = record { over = a; under = b }
 

@@ -27,6 +27,10 @@ impl Ratio {
     pub fn floor(self) -> u64
         ensures { λ r. ⌜ r ≡ dropped self ⌝ }
     {
-        if self.under == 0 { 0 } else { self.over / self.under }
+        if self.under == 0 {
+            0
+        } else {
+            self.over / self.under
+        }
     }
 }

@@ -34,9 +34,9 @@ times-requires-2 c κs =
     let a = c .args .a in
     let is = c .lesser-2 .ensures ∙ ap (smaller a) (c .lesser-cap .ensures) in
     let a-over : c .lesser-2 .result .over ≤ 10000 =
-        subst (λ (r : Ratio). r .over ≤ 10000) (sym is) (α-over a (c .bolt-strength-fub .result) (c .ultimate-strength-fu .result) (c .bolt-strength-fub .ensures .bound) (c .ultimate-strength-fu .ensures .bound) (l .α-over)) in
+    subst (λ (r : Ratio). r .over ≤ 10000) (sym is) (α-over a (c .bolt-strength-fub .result) (c .ultimate-strength-fu .result) (c .bolt-strength-fub .ensures .bound) (c .ultimate-strength-fu .ensures .bound) (l .α-over)) in
     let a-under : c .lesser-2 .result .under ≤ 10000 =
-        subst (λ (r : Ratio). r .under ≤ 10000) (sym is) (α-under a (c .bolt-strength-fub .result) (c .ultimate-strength-fu .result) (c .bolt-strength-fub .ensures .bound) (c .ultimate-strength-fu .ensures .bound) (l .α-under)) in
+    subst (λ (r : Ratio). r .under ≤ 10000) (sym is) (α-under a (c .bolt-strength-fub .result) (c .ultimate-strength-fu .result) (c .bolt-strength-fub .ensures .bound) (c .ultimate-strength-fu .ensures .bound) (l .α-under)) in
     let t-over = ap (λ (r : Ratio). r .over) (c .times .ensures) in
     let t-under = ap (λ (r : Ratio). r .under) (c .times .ensures) in
     let most = mul-le-mul n over in
@@ -47,6 +47,6 @@ times-requires-2 c κs =
 pub returns : need.returns
 returns c =
     let is = total-is (c .args .self .now) (c .args .k) (c .args .a) (c .lesser-cap .result) (c .lesser .result) (c .lesser-2 .result) (c .times .result) (c .times-2 .result)
-        (c .ultimate-strength-fu .result) (c .bolt-strength-fub .result) (c .ultimate-strength-fu .ensures .value) (c .bolt-strength-fub .ensures .value)
-        (c .lesser-cap .ensures) (c .lesser .ensures) (c .times .ensures) (c .lesser-2 .ensures) (c .times-2 .ensures) in
+    (c .ultimate-strength-fu .result) (c .bolt-strength-fub .result) (c .ultimate-strength-fu .ensures .value) (c .bolt-strength-fub .ensures .value)
+    (c .lesser-cap .ensures) (c .lesser .ensures) (c .times .ensures) (c .lesser-2 .ensures) (c .times-2 .ensures) in
     ap Some is ∙ sym (cond-true (workable (c .args .self .now) (c .args .k) (c .args .a)) (Some (bear-of (c .args .self .now) (c .args .k) (c .args .a))) None (sym (c .if-not-is-workable .ensures tt)))

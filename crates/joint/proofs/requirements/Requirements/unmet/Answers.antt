@@ -9,7 +9,7 @@ pub returns : need.returns
 returns c =
     let q = c .args .self in
     let is : bitOr (bitOr (bitOr (bitOr (c .power-of .result) (c .power-of-2 .result)) (c .power-of-3 .result)) (c .power-of-4 .result)) (bitOr (bitOr (c .power-of-5 .result) (c .power-of-6 .result)) (c .power-of-7 .result))
-        ≡ set-of (q .«fits_web») (q .turns) (q .ductile) (q .welded) (q .«bolts_spared») (q .«carries_shear») (q .«carries_tie») = cc in
+    ≡ set-of (q .«fits_web») (q .turns) (q .ductile) (q .welded) (q .«bolts_spared») (q .«carries_shear») (q .«carries_tie») = cc in
     record {
       value = is ∙ set-sum (q .«fits_web») (q .turns) (q .ductile) (q .welded) (q .«bolts_spared») (q .«carries_shear») (q .«carries_tie»);
       counts = ap ones is ∙ set-count (q .«fits_web») (q .turns) (q .ductile) (q .welded) (q .«bolts_spared») (q .«carries_shear») (q .«carries_tie»);
