@@ -1,4 +1,6 @@
 pub mod Bounds
+pub mod GroupBounds
+pub mod GroupLimits
 pub mod Held
 pub mod Ratios
 pub mod Readings

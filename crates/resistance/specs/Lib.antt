@@ -1,4 +1,5 @@
 pub mod Exact
 pub mod Expressions
 pub mod Fractions
+pub mod Groups
 pub mod Roots

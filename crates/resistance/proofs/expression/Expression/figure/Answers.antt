@@ -22,3 +22,6 @@ returns-in-Sum c =
       value = checked-held _ _ (c .checked-add .ensures) ∙ ap held parts ∙ sym (ap figure-of (c .in-Sum .is));
       stands = stands _;
     }
+
+pub returns-in-Group : need.returns-in-Group
+returns-in-Group c = record { value = search needs; stands = stands _ }
