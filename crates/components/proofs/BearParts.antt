@@ -1,6 +1,6 @@
 -- The parts of a bearing total stay within 64 bits.
-use mathlib.Core.Path.{_≡_, ap, ap₂, _∙_}
-use mathlib.Core.Bool.{true, _&&_}
+use mathlib.Core.Path.{_≡_, refl, ap, ap₂, _∙_}
+use mathlib.Core.Bool.{Bool, true, false, cond, _&&_}
 use Prim.Native.Nat.{ℕ, _-_, _*_, _≤_, _<_, _^_}
 use lib.Dec.{leb}
 use native.Mathlib.Nat.{mul-le-mul, mul-pos}
@@ -10,9 +10,10 @@ use Rattle.std.proofs.shelf.Tests.{and-parts, and-from, leb-true, le-leb, cond-
 use Rattle.resistance.specs.Fractions.{_÷_, _⊗_, smaller}
 use Rattle.resistance.specs.declared.ratio.Ratio.{Ratio}
 use Rattle.resistance.proofs.Ratios.{Proper, smaller-proper, smaller-over, smaller-under}
-use Rattle.components.specs.Bears.{k, u, w, workable, most, c, bear-of, total-of}
+use Rattle.components.specs.Bears.{k, k′, u, w, workable, most, c, bear-of, total-of, ultimate, ultimate-of}
 use Rattle.components.specs.Tabled.{fu, fub}
 use Rattle.components.specs.declared.bearing.Bearing.{Bearing}
+use Rattle.components.proofs.Listed.{fu-most, fub-most}
 
 -- what workable says, as plain facts
 pub record Limits (b : Bearing) (x α : Ratio) : Type 0 where
@@ -80,6 +81,10 @@ pub total-known : (b : Bearing) (x α : Ratio) {b′ : Bearing} {x′ α′ : Ra
 total-known b x α {b′} {x′} {α′} eb ex eα l =
     ap (λ (y : Bearing). total-of y x′ α′) eb ∙ ap₂ (λ (y z : Ratio). total-of b y z) ex eα ∙ cond-true _ (Some (bear-of b x α)) None (workable-within b x α l)
 
+pub ultimate-known : (b : Bearing) (x α : Ratio) {b′ : Bearing} {x′ α′ : Ratio} → b′ ≡ b → x′ ≡ x → α′ ≡ α → Limits b x α → ultimate-of b′ x′ α′ ≡ Some (ultimate (bear-of b x α))
+ultimate-known b x α {b′} {x′} {α′} eb ex eα l =
+    ap (λ (y : Bearing). ultimate-of y x′ α′) eb ∙ ap₂ (λ (y z : Ratio). ultimate-of b y z) ex eα ∙ cond-true _ (Some (ultimate (bear-of b x α))) None (workable-within b x α l)
+
 -- the factors of distances up to 200 mm round a hole up to 33 mm lie within the limits
 pub record Small (x : Ratio) : Type 0 where
   pub over : x .over ≤ 10000
@@ -87,6 +92,9 @@ pub record Small (x : Ratio) : Type 0 where
 
 pub k-small : (d₀ e : ℕ) → d₀ ≤ 33 → e ≤ 200 → Small (k d₀ e)
 k-small d₀ e h l = record { over = omega arith; under = omega arith }
+
+pub k′-small : (d₀ p : ℕ) → d₀ ≤ 33 → p ≤ 200 → Small (k′ d₀ p)
+k′-small d₀ p h l = record { over = omega arith; under = omega arith }
 
 pub u-small : (d₀ e : ℕ) → d₀ ≤ 33 → e ≤ 200 → Small (u d₀ e)
 u-small d₀ e h l = record { over = omega arith; under = omega arith }
@@ -105,3 +113,21 @@ pub bear-proper : (b : Bearing) (x α : Ratio) → 0 < fu (b .steel) → Proper 
 bear-proper b x α f p q =
     mul-pos (mul-pos {m = 25} (omega arith) (smaller-proper x most p (omega arith)))
     (smaller-proper α (c (fub (b .grade)) (fu (b .steel))) q (smaller-proper (fub (b .grade) ÷ fu (b .steel)) (1 ÷ 1) f (omega arith)))
+
+-- a total that was answered: the numbers are workable, and it is the bearing total
+total-cases : (b : Bearing) (x α t : Ratio) (w : Bool) → workable b x α ≡ w → cond w (Some (bear-of b x α)) None ≡ Some t → Limits b x α × (t ≡ bear-of b x α)
+total-cases b x α t true is e = (limits b x α is, cc)
+total-cases b x α t false is e = let z : _≡_ {A = ℕ} 0 1 = cc in absurd (omega arith)
+
+pub total-some : (b : Bearing) (x α t : Ratio) → total-of b x α ≡ Some t → Limits b x α × (t ≡ bear-of b x α)
+total-some b x α t e = total-cases b x α t (workable b x α) refl e
+
+-- how large it can be
+pub bear-most : (b : Bearing) (x α : Ratio) → Limits b x α → (bear-of b x α .over ≤ 25920000000000000) × (bear-of b x α .under ≤ 2500000000)
+bear-most b x α l =
+    let f : fu (b .steel) ≤ 540 = fu-most (b .steel) in
+    let g : fub (b .grade) ≤ 1000 = fub-most (b .grade) in
+    let n = whole-part (b .bolts) (fu (b .steel)) (b .bolt) (b .thickness) (l .bolts) f (l .bolt) (l .thickness) in
+    let over = mul-le-mul (mul-le-mul n (k-over x (l .x-over))) (α-over α (fub (b .grade)) (fu (b .steel)) g f (l .α-over)) in
+    let under = mul-le-mul (k-under x (l .x-under)) (α-under α (fub (b .grade)) (fu (b .steel)) g f (l .α-under)) in
+    (omega arith, omega arith)

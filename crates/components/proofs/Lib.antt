@@ -1,2 +1,4 @@
 pub mod BearParts
+pub mod GroupRanges
 pub mod Listed
+pub mod Plates

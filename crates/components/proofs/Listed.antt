@@ -3,13 +3,14 @@ use mathlib.Core.Path.{_≡_, refl, sym, ap, _∙_, subst}
 use mathlib.Core.Bool.{Bool, true, false, cond, _&&_}
 use mathlib.Core.List.{List, [], _∷_}
 use mathlib.Core.Logic.{inl, inr}
-use Prim.Native.Nat.{ℕ, _+_, _≤_, _<_}
+use Prim.Native.Nat.{ℕ, _+_, _*_, _≤_, _<_}
 use native.Mathlib.Omega.{arith}
 use lib.Dec.{eqb, leb}
+use Rattle.std.proofs.shelf.Ways.{tells}
 use lib.ListN.{length, getD, drop}
 use Rattle.std.proofs.shelf.Lists.{at-drop-more}
 use Rattle.std.proofs.shelf.Tests.{cases-lt, cond-true, cond-false, eq-eqb, ne-eqb, eqb-true, leb-true, and-parts}
-use Rattle.components.specs.Tabled.{row, fu, weld-factor, fub, hole-of, shank-of, stress-of, area-of, strengths, bolt-strengths, holes}
+use Rattle.components.specs.Tabled.{row, fu, weld-factor, fub, hole-of, shank-of, stress-of, area-of, shear-of, strengths, bolt-strengths, weld-factors, holes}
 
 module _ (t : List (ℕ × ℕ)) (x i : ℕ) (within : i < length t) where
   -- the row at i is the one
@@ -80,3 +81,30 @@ class-range grade h = range 46 109 400 1000 grade _ (row-tested (in-range 46 109
 pub bolt-range : (bolt : ℕ) → 0 < hole-of bolt → Range 12 30 13 33 bolt (hole-of bolt)
 unfolding hole-of
 bolt-range bolt h = range 12 30 13 33 bolt _ (row-tested (in-range 12 30 13 33) holes refl bolt h)
+
+pub fu-most : (steel : ℕ) → fu steel ≤ 540
+unfolding fu
+fu-most steel = row-most 540 strengths refl steel
+
+pub fub-most : (grade : ℕ) → fub grade ≤ 1000
+unfolding fub
+fub-most grade = row-most 1000 bolt-strengths refl grade
+
+-- the weld factor of a steel times its yield strength
+row-product : (b : ℕ) (t : List (ℕ × ℕ)) → every (λ p. leb (p .1 * p .0) b) t ≡ true → (x : ℕ) → row t x * x ≤ b
+row-product b t all x = elim (cases-lt 0 (row t x)) [
+  | inl h ↦ leb-true _ b (row-tested (λ p. leb (p .1 * p .0) b) t all x h)
+  | inr h ↦ let z : row t x ≡ 0 = omega arith in subst (λ (n : ℕ). n * x ≤ b) (sym z) (omega arith)
+]
+
+pub weld-most : (steel : ℕ) → weld-factor steel * steel ≤ 46000
+unfolding weld-factor
+weld-most steel = row-product 46000 weld-factors refl steel
+
+-- the area that a listed bolt is sheared on, and its shear factor
+pub area-range : (bolt plane : ℕ) → 0 < hole-of bolt → (84 ≤ area-of bolt plane) × (area-of bolt plane ≤ 707)
+unfolding hole-of shank-of stress-of
+area-range bolt plane h = (grind (arith, tells), grind (arith, tells))
+
+pub shear-range : (grade plane : ℕ) → (5 ≤ shear-of grade plane) × (shear-of grade plane ≤ 6)
+shear-range grade plane = (grind (arith, tells), grind (arith, tells))

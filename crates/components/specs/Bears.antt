@@ -6,12 +6,16 @@ use Rattle.std.specs.declared.option.Option.{Option}
 use Rattle.std.specs.declared.option.Option.the-variants.{Some, None}
 use Rattle.resistance.specs.Fractions.{_÷_, _⊗_, smaller}
 use Rattle.resistance.specs.declared.ratio.Ratio.{Ratio}
-use Rattle.components.specs.Tabled.{fu, fub}
+use Rattle.components.specs.Tabled.{fu, fub, area-of, shear-of}
 use Rattle.components.specs.declared.bearing.Bearing.{Bearing}
 
 -- k(e) = 2.8·e/d₀ − 1.7: of a distance across the force
 abbrev pub k : (d₀ e : ℕ) → Ratio
 k d₀ e = (28 * e - 17 * d₀) ÷ (10 * d₀)
+
+-- k′(p) = 1.4·p/d₀ − 1.7: of a spacing across the force
+abbrev pub k′ : (d₀ p : ℕ) → Ratio
+k′ d₀ p = (14 * p - 17 * d₀) ÷ (10 * d₀)
 
 -- u(e) = e/(3·d₀): of an end bolt
 abbrev pub u : (d₀ e : ℕ) → Ratio
@@ -45,3 +49,14 @@ workable b x α =
 
 abbrev pub total-of : Bearing → Ratio → Ratio → Option Ratio
 total-of b x α = cond (workable b x α) (Some (bear-of b x α)) None
+
+-- a total without its partial factor: 5/4 of it
+abbrev pub ultimate : Ratio → Ratio
+ultimate x = x ⊗ (5 ÷ 4)
+
+abbrev pub ultimate-of : Bearing → Ratio → Ratio → Option Ratio
+ultimate-of b x α = cond (workable b x α) (Some (ultimate (bear-of b x α))) None
+
+-- T = 2·m·s·fub·A/25: all bolts in shear
+abbrev pub shear-total : (m bolt grade plane : ℕ) → Ratio
+shear-total m bolt grade plane = (2 * m * shear-of grade plane * fub grade * area-of bolt plane) ÷ 25

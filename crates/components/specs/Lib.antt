@@ -1,2 +1,4 @@
 pub mod Bears
+pub mod Columns
 pub mod Tabled
+pub mod Welds

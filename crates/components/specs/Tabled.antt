@@ -58,3 +58,13 @@ area-of bolt plane = cond (eqb plane 0) (shank-of bolt) (stress-of bolt)
 -- s: the shear factor in tenths, 5 for classes 6.8 and 10.9 with the thread in the shear plane, otherwise 6
 abbrev pub shear-of : (grade plane : ℕ) → ℕ
 shear-of grade plane = cond ((eqb grade 68 || eqb grade 109) && eqb plane 1) 5 6
+
+-- the tables list a steel, a bolt, a bolt class
+abbrev pub steel : ℕ → Bool
+steel x = ltb 0 (fu x)
+
+abbrev pub bolt-size : ℕ → Bool
+bolt-size x = ltb 0 (hole-of x)
+
+abbrev pub bolt-class : ℕ → Bool
+bolt-class x = ltb 0 (fub x)

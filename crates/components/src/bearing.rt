@@ -2,8 +2,10 @@
 ghost use Prim.Native.Nat.{_*_, _^_, _≤_, _<_};
 ghost use mathlib.Core.Path.{_≡_};
 ghost use Rattle.resistance.specs.Fractions.{_⊗_};
-ghost use Rattle.components.specs.Bears.{k, u, w, workable, total-of};
+ghost use Rattle.components.specs.Bears.{k, k′, u, w, workable, total-of, ultimate-of, shear-total};
 use crate::tables::bolt_strength;
+use crate::tables::shear_area;
+use crate::tables::shear_factor;
 use crate::tables::ultimate_strength;
 use resistance::ratio::Ratio;
 
@@ -20,6 +22,9 @@ pub struct Bearing {
 // No k exceeds 2.5.
 const MOST: Ratio = Ratio { over: 5, under: 2 };
 
+// The partial factor of bearing is taken off a total by this.
+const FIVE_QUARTERS: Ratio = Ratio { over: 5, under: 4 };
+
 const ONE: Ratio = Ratio { over: 1, under: 1 };
 
 // k(e) = 2.8·e/d0 − 1.7, of a distance across the force.
@@ -28,6 +33,16 @@ pub fn edge_factor(d0: u32, e: u32) -> Ratio
 {
     Ratio {
         over: (28 * e as u64).saturating_sub(17 * d0 as u64),
+        under: 10 * d0 as u64,
+    }
+}
+
+// k′(p) = 1.4·p/d0 − 1.7, of a spacing across the force.
+pub fn spacing_factor(d0: u32, p: u32) -> Ratio
+    ensures { λ r. ⌜ r ≡ k′ d0 p ⌝ }
+{
+    Ratio {
+        over: (14 * p as u64).saturating_sub(17 * d0 as u64),
         under: 10 * d0 as u64,
     }
 }
@@ -97,5 +112,26 @@ impl Bearing {
             under: 25,
         };
         Some(times(times(all, k.lesser(MOST)), a.lesser(cap)))
+    }
+
+    // The same without the partial factor: 5/4 of the exact total.
+    pub fn ultimate(&self, k: Ratio, a: Ratio) -> Option<Ratio>
+        ensures { λ r. ⌜ r ≡ ultimate-of (now (self .entry)) k a ⌝ }
+    {
+        let total = self.total(k, a)?;
+        Some(times(total, FIVE_QUARTERS))
+    }
+}
+
+// T = 2·m·s·fub·A/25: all bolts in shear.
+pub fn shear_of_bolts(bolts: u32, bolt: u32, grade: u32, plane: u32) -> Ratio
+    ensures { λ r. ⌜ r ≡ shear-total bolts bolt grade plane ⌝ }
+{
+    let s = shear_factor(grade, plane) as u64;
+    let fub = bolt_strength(grade) as u64;
+    let area = shear_area(bolt, plane) as u64;
+    Ratio {
+        over: 2 * bolts as u64 * s * fub * area,
+        under: 25,
     }
 }

@@ -1,7 +1,7 @@
 // The tables of steels, bolts and bolt classes. A number that a table does not list stands for 0.
 ghost use Prim.Native.Nat.{_≤_};
 ghost use mathlib.Core.Path.{_≡_};
-ghost use Rattle.components.specs.Tabled.{fu, weld-factor, hole-of, shank-of, stress-of, area-of, fub, shear-of};
+ghost use Rattle.components.specs.Tabled.{fu, weld-factor, hole-of, shank-of, stress-of, area-of, fub, shear-of, steel, bolt-size, bolt-class};
 use crate::rows::row_of;
 
 // A steel goes by its yield strength fy, N/mm².
@@ -123,4 +123,25 @@ pub fn shear_factor(grade: u32, plane: u32) -> u32
     } else {
         6
     }
+}
+
+// The table lists a steel.
+pub fn is_steel(x: u32) -> bool
+    ensures { λ r. ⌜ r ≡ steel x ⌝ }
+{
+    ultimate_strength(x) > 0
+}
+
+// The table lists a bolt.
+pub fn is_bolt(x: u32) -> bool
+    ensures { λ r. ⌜ r ≡ bolt-size x ⌝ }
+{
+    hole(x) > 0
+}
+
+// The table lists a bolt class.
+pub fn is_class(x: u32) -> bool
+    ensures { λ r. ⌜ r ≡ bolt-class x ⌝ }
+{
+    bolt_strength(x) > 0
 }

@@ -28,7 +28,7 @@ use Rattle.header.specs.HeaderModes.{shear-modes, shear-binds, shallow, sides-
 use Rattle.header.specs.declared.header.Header.{Header}
 use Rattle.header.specs.declared.joint.HeaderJoint.{HeaderJoint}
 use Rattle.header.proofs.Ranges.{Admitted, ranges}
-use Rattle.header.proofs.Sizes.{depth-most}
+use Rattle.components.proofs.Plates.{depth-most}
 use Rattle.header.proofs.Tried.{accepted}
 
 -- the modes with an expression are those that bind

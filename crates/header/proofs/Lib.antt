@@ -1,5 +1,4 @@
 pub mod Bears
 pub mod HeaderMeans
 pub mod Ranges
-pub mod Sizes
 pub mod Tried

@@ -2,28 +2,18 @@
 use Prim.Native.Nat.{ℕ}
 use mathlib.Core.Bool.{Bool, _||_}
 use mathlib.Core.List.{List, [], _∷_, _++_}
-use lib.Dec.{eqb, ltb}
+use lib.Dec.{eqb}
 use Rattle.std.specs.declared.option.Option.{Option}
 use Rattle.joint.specs.Checked.{first-of, within, spaced}
 use Rattle.joint.specs.declared.fault.JointFault.{JointFault}
 use Rattle.joint.specs.declared.fault.JointFault.the-variants.{NotAllowed, TooClose}
-use Rattle.components.specs.Tabled.{fu, fub, hole-of}
+use Rattle.components.specs.Tabled.{hole-of, steel, bolt-size, bolt-class}
 use Rattle.components.specs.declared.bolts.Bolts.{Bolts}
 use Rattle.header.specs.declared.joint.HeaderJoint.{HeaderJoint}
 use Rattle.header.specs.declared.joint.Steels.{Steels}
 use Rattle.header.specs.declared.joint.Layout.{Layout}
 use Rattle.header.specs.declared.joint.Parts.{Parts}
 use Rattle.header.specs.declared.joint.Demands.{Demands}
-
--- the tables list a steel, a bolt, a bolt class
-abbrev pub steel : ℕ → Bool
-steel x = ltb 0 (fu x)
-
-abbrev pub bolt-size : ℕ → Bool
-bolt-size x = ltb 0 (hole-of x)
-
-abbrev pub bolt-class : ℕ → Bool
-bolt-class x = ltb 0 (fub x)
 
 abbrev pub steel-checks : Steels → List (Bool × JointFault)
 steel-checks s = (steel (s .plate), NotAllowed 1) ∷ (steel (s .web), NotAllowed 2) ∷ (steel (s .supp), NotAllowed 3) ∷ []

@@ -10,6 +10,7 @@ use Rattle.resistance.specs.declared.expression.Expression.{Expression}
 use Rattle.resistance.specs.declared.expression.Expression.the-variants.{Whole, Root, Sum}
 use Rattle.resistance.specs.declared.ratio.Ratio.{Ratio}
 use Rattle.components.specs.Bears.{k, u, w, most, bear-of}
+use Rattle.components.specs.Columns.{depth-by, net-by, torn-by}
 use Rattle.components.specs.Tabled.{fu, fub, hole-of, area-of, shear-of}
 use Rattle.components.specs.declared.bearing.Bearing.{Bearing}
 use Rattle.joint.specs.Modes.{mode-in}
@@ -27,15 +28,15 @@ module _ (j : HeaderJoint) where
 
   -- hp: the depth of the plate
   abbrev pub depth-of : ℕ
-  depth-of = 2 * j .layout .e1 + (j .bolts .rows - 1) * j .layout .p1
+  depth-of = depth-by (j .bolts .rows) (j .layout .e1) (j .layout .p1)
 
   -- net: what the holes leave of the depth
   abbrev pub net-of : ℕ
-  net-of = depth-of - j .bolts .rows * d₀
+  net-of = net-by (j .bolts .rows) d₀ (j .layout .e1) (j .layout .p1)
 
-  -- G: the net length that a torn block is sheared on, both sides together
+  -- G: the net length that the two torn blocks are sheared on
   abbrev pub torn-of : ℕ
-  torn-of = 2 * depth-of - 2 * j .layout .e1 - (2 * j .bolts .rows - 1) * d₀
+  torn-of = torn-by (j .bolts .rows) d₀ (j .layout .e1) (j .layout .p1)
 
   -- the plate is shallow for its gauge, so that it bends
   abbrev pub shallow : Bool

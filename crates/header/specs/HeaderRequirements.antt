@@ -2,7 +2,8 @@
 use Prim.Native.Nat.{ℕ, _*_}
 use mathlib.Core.Bool.{Bool, true, not, _&&_, _||_}
 use lib.Dec.{eqb, leb, ltb}
-use Rattle.components.specs.Tabled.{fu, fub, weld-factor}
+use Rattle.components.specs.Tabled.{fub}
+use Rattle.components.specs.Welds.{full-strength}
 use Rattle.joint.specs.Unmet.{unmet-of}
 use Rattle.joint.specs.declared.requirements.Requirements.{Requirements}
 use Rattle.header.specs.HeaderModes.{depth-of}
@@ -26,19 +27,13 @@ module _ (j : HeaderJoint) where
   abbrev pub ductile-joint : Bool
   ductile-joint = yields-first (j .parts .tp) (j .steels .plate) || (ltb 0 (j .parts .es) && yields-first (j .parts .ts) (j .steels .supp))
 
-  -- 8: 40000·a²·fu² > 3·tw²·b²·fy², of the beam web
-  abbrev pub full-strength : Bool
-  full-strength =
-      ltb (3 * j .parts .tw * j .parts .tw * weld-factor (j .steels .web) * weld-factor (j .steels .web) * j .steels .web * j .steels .web)
-      (40000 * j .parts .a * j .parts .a * fu (j .steels .web) * fu (j .steels .web))
-
-  -- 16 and 64 are never failed; 32: v ≤ governing shear
+  -- 8: the weld is as strong as the beam web; 16 and 64 are never failed; 32: v ≤ governing shear
   abbrev pub requirements-of : (governing : ℕ) → Requirements
   requirements-of governing = record {
     «fits_web» = fits-web;
     turns = turns-freely;
     ductile = ductile-joint;
-    welded = full-strength;
+    welded = full-strength (j .parts .a) (j .parts .tw) (j .steels .web);
     «bolts_spared» = true;
     «carries_shear» = leb (j .demands .v) governing;
     «carries_tie» = true;

@@ -1,7 +1,7 @@
 // Admission of a header plate: one function for each group of fields, in the order of the card, then the least distances.
 ghost use mathlib.Core.Path.{_≡_};
 ghost use Rattle.joint.specs.Checked.{of-list};
-ghost use Rattle.header.specs.FieldChecks.{steel, bolt-size, bolt-class, steel-checks, bolt-checks, layout-checks, part-checks, demand-checks, distance-checks};
+ghost use Rattle.header.specs.FieldChecks.{steel-checks, bolt-checks, layout-checks, part-checks, demand-checks, distance-checks};
 ghost use Rattle.header.specs.HeaderAdmission.{outcomes};
 use crate::joint::Demands;
 use crate::joint::HeaderJoint;
@@ -9,31 +9,14 @@ use crate::joint::Layout;
 use crate::joint::Parts;
 use crate::joint::Steels;
 use components::bolts::Bolts;
-use components::tables::bolt_strength;
 use components::tables::hole;
-use components::tables::ultimate_strength;
+use components::tables::is_bolt;
+use components::tables::is_class;
+use components::tables::is_steel;
 use joint::checks::allowed;
 use joint::checks::apart;
 use joint::checks::is_within;
 use joint::fault::JointFault;
-
-fn is_steel(x: u32) -> bool
-    ensures { λ r. ⌜ r ≡ steel x ⌝ }
-{
-    ultimate_strength(x) > 0
-}
-
-fn is_bolt(x: u32) -> bool
-    ensures { λ r. ⌜ r ≡ bolt-size x ⌝ }
-{
-    hole(x) > 0
-}
-
-fn is_class(x: u32) -> bool
-    ensures { λ r. ⌜ r ≡ bolt-class x ⌝ }
-{
-    bolt_strength(x) > 0
-}
 
 fn check_steels(s: Steels) -> Result<(), JointFault>
     ensures { λ r. ⌜ r ≡ of-list (steel-checks s) ⌝ }

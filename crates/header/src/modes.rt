@@ -1,13 +1,15 @@
 // The eight modes of a header plate, each as the expression of its resistance.
 ghost use Prim.Native.Nat.{_≤_};
 ghost use mathlib.Core.Path.{_≡_};
+ghost use Rattle.components.specs.Tabled.{hole-of};
 ghost use Rattle.std.specs.declared.option.Option.the-variants.{Some};
-ghost use Rattle.header.specs.HeaderModes.{bolts-of, depth-of, net-of, torn-of, shallow, sides-of, on-plate, on-support, support-edge, bolt-shear, plate-bearing, support-bearing, gross-plate, net-plate, block-tearing, plate-bending, beam-web, header-mode};
+ghost use Rattle.header.specs.HeaderModes.{bolts-of, depth-of, shallow, sides-of, on-plate, on-support, support-edge, bolt-shear, plate-bearing, support-bearing, gross-plate, net-plate, block-tearing, plate-bending, beam-web, header-mode};
 use crate::header::Header;
 use components::bearing::Bearing;
 use components::bearing::edge_factor;
 use components::bearing::end_factor;
 use components::bearing::pitch_factor;
+use components::column::Column;
 use components::tables::bolt_strength;
 use components::tables::hole;
 use components::tables::shear_area;
@@ -28,33 +30,27 @@ impl Header {
         2 * self.joint.bolts.rows
     }
 
+    // The bolts of one column.
+    fn column(&self) -> Column
+        ensures rows { λ r. ⌜ r .rows ≡ now (self .entry) .joint .bolts .rows ⌝ }
+        ensures end { λ r. ⌜ r .e1 ≡ now (self .entry) .joint .layout .e1 ⌝ }
+        ensures pitch { λ r. ⌜ r .p1 ≡ now (self .entry) .joint .layout .p1 ⌝ }
+        ensures hole { λ r. ⌜ r .hole ≡ hole-of (now (self .entry) .joint .bolts .bolt) ⌝ }
+    {
+        Column {
+            rows: self.joint.bolts.rows,
+            e1: self.joint.layout.e1,
+            p1: self.joint.layout.p1,
+            hole: hole(self.joint.bolts.bolt),
+        }
+    }
+
     // hp: the depth of the plate.
     pub(crate) fn depth(&self) -> u64
         ensures value { λ r. ⌜ r ≡ depth-of (now (self .entry) .joint) ⌝ }
         ensures bound { λ r. ⌜ r ≤ 2100 ⌝ }
     {
-        let l = self.joint.layout;
-        2 * l.e1 as u64 + (self.joint.bolts.rows as u64 - 1) * l.p1 as u64
-    }
-
-    // net: what the holes leave of the depth.
-    fn net_depth(&self) -> u64
-        ensures value { λ r. ⌜ r ≡ net-of (now (self .entry) .joint) ⌝ }
-        ensures bound { λ r. ⌜ r ≤ 2100 ⌝ }
-    {
-        let b = self.joint.bolts;
-        self.depth() - b.rows as u64 * hole(b.bolt) as u64
-    }
-
-    // G: the net length that a torn block is sheared on, both sides together.
-    fn torn_length(&self) -> u64
-        ensures value { λ r. ⌜ r ≡ torn-of (now (self .entry) .joint) ⌝ }
-        ensures bound { λ r. ⌜ r ≤ 4200 ⌝ }
-    {
-        let b = self.joint.bolts;
-        2 * self.depth()
-            - 2 * self.joint.layout.e1 as u64
-            - (2 * b.rows as u64 - 1) * hole(b.bolt) as u64
+        self.column().depth()
     }
 
     // The plate is shallow for its gauge, so that it bends.
@@ -145,7 +141,7 @@ impl Header {
     {
         let fu = ultimate_strength(self.joint.steels.plate) as u64;
         Expression::Root(Ratio {
-            over: 4 * self.joint.parts.tp as u64 * self.net_depth() * fu,
+            over: 4 * self.joint.parts.tp as u64 * self.column().net_depth() * fu,
             under: 25,
         })
     }
@@ -171,7 +167,7 @@ impl Header {
                 under: 25,
             },
             Ratio {
-                over: tp * plate as u64 * self.torn_length(),
+                over: tp * plate as u64 * self.column().torn_length(),
                 under: 10,
             },
         )

@@ -1,10 +1,9 @@
 // The requirements of a header plate.
 ghost use mathlib.Core.Path.{_≡_};
-ghost use Rattle.header.specs.HeaderRequirements.{yields-first, ductile-joint, full-strength, requirements-of};
+ghost use Rattle.header.specs.HeaderRequirements.{yields-first, ductile-joint, requirements-of};
 use crate::header::Header;
 use components::tables::bolt_strength;
-use components::tables::ultimate_strength;
-use components::tables::weld_correlation;
+use components::weld::is_full_strength;
 use joint::requirements::Requirements;
 
 impl Header {
@@ -27,28 +26,17 @@ impl Header {
         self.yields(p.tp, s.plate) || p.es > 0 && self.yields(p.ts, s.supp)
     }
 
-    // The weld is as strong as the beam web.
-    fn is_welded(&self) -> bool
-        ensures { λ r. ⌜ r ≡ full-strength (now (self .entry) .joint) ⌝ }
-    {
-        let web = self.joint.steels.web;
-        let tw = self.joint.parts.tw as u64;
-        let a = self.joint.parts.a as u64;
-        let weld = 200 * a * ultimate_strength(web) as u64;
-        let part = tw * weld_correlation(web) as u64 * web as u64;
-        3 * part * part < weld * weld
-    }
-
     // Each requirement, given the governing shear. A header plate never fails those of the bolts and of tying.
     pub(crate) fn requirements(&self, governing: u64) -> Requirements
         ensures { λ r. ⌜ r ≡ requirements-of (now (self .entry) .joint) governing ⌝ }
     {
         let d = self.joint.demands;
+        let p = self.joint.parts;
         Requirements {
             fits_web: self.depth() <= d.db as u64,
-            turns: (d.he as u64 * d.phi as u64) < 100000 * self.joint.parts.tp as u64,
+            turns: (d.he as u64 * d.phi as u64) < 100000 * p.tp as u64,
             ductile: self.is_ductile(),
-            welded: self.is_welded(),
+            welded: is_full_strength(p.a, p.tw, self.joint.steels.web),
             bolts_spared: true,
             carries_shear: d.v as u64 <= governing,
             carries_tie: true,
