@@ -1,0 +1,4 @@
+pub mod Bears
+pub mod FinMeans
+pub mod Ranges
+pub mod Tried
