@@ -5,7 +5,7 @@ use mathlib.Core.Path.{_≡_}
 use lib.ListN.{length, drop}
 use Rattle.card.specs.Cards.{TookCard, RefusesCard}
 use Rattle.card.specs.declared.fault.TextFault.{TextFault}
-use Rattle.header.specs.declared.joint.HeaderJoint.{HeaderJoint}
+use Rattle.card.specs.declared.card.Card.{Card}
 use Rattle.account.specs.Judged.{entry-of, entry-text}
 use Rattle.account.specs.declared.entry.Entry.{Entry}
 use Rattle.account.specs.declared.entry.Entry.the-variants.{Refused}
@@ -19,7 +19,7 @@ entries-text (e ∷ es) = entry-text e ++ entries-text es
 -- text begins with a card for each entry, and rest is left behind them: a joint that is not admitted does not end the account
 abbrev pub Through : List ℕ → List Entry → List ℕ → Type 0
 Through text [] rest = text ≡ rest
-Through text (e ∷ es) rest = (j : HeaderJoint) × (n : ℕ) × TookCard text j n × (e ≡ entry-of j) × Through (drop n text) es rest
+Through text (e ∷ es) rest = (c : Card) × (n : ℕ) × TookCard text c n × (e ≡ entry-of c) × Through (drop n text) es rest
 
 -- nothing is left, or something that is not a card: its first fault ends the account
 abbrev pub Ends : List ℕ → List Entry → Type 0

@@ -18,8 +18,8 @@ pub fn account(heap: Global, text: &[u8]) -> Result<String, AllocError>
     let mut rest = text;
     while !rest.is_empty() {
         match read_card(rest) {
-            Ok((joint, taken)) => {
-                judge(joint).put(&mut out)?;
+            Ok((card, taken)) => {
+                judge(card).put(&mut out)?;
                 rest = &rest[taken..];
             }
             Err(fault) => {

@@ -5,13 +5,14 @@ ghost use Rattle.std.specs.Of.String.{string-bytes};
 ghost use Rattle.std.specs.Vec.{made};
 ghost use Rattle.card.specs.Text.{lineOf};
 ghost use Rattle.account.specs.Faults.{fault-code};
-ghost use Rattle.account.specs.Judged.{entry-of, entry-text, sheet-text, fault-text};
+ghost use Rattle.account.specs.Judged.{entry-of, entry-text, sheet-lines, fault-text};
 use crate::fault::Fault;
 use crate::fault::FaultDebug;
 use crate::fault::FaultEq;
 use crate::fault::FaultFromJoint;
 use crate::fault::FaultPartialEq;
-use header::joint::HeaderJoint;
+use card::card::Card;
+use fin::sheet::fin_sheet;
 use header::sheet::header_sheet;
 use joint::sheet::Sheet;
 use joint::sheet::SheetDebug;
@@ -22,17 +23,25 @@ use std::alloc::AllocError;
 #[derive(Clone, Copy, PartialEq, Eq, Debug)]
 pub enum Entry {
     // the sheet of a header plate
-    Worked(Sheet),
+    Header(Sheet),
+    // the sheet of a fin plate
+    Fin(Sheet),
     Refused(Fault),
 }
 
-// The sheet of a joint, or why it is not admitted.
-pub fn judge(given: HeaderJoint) -> Entry
-    ensures { λ r. ⌜ r ≡ entry-of given ⌝ }
+// The sheet of a card's joint, or why it is not admitted.
+pub fn judge(card: Card) -> Entry
+    ensures { λ r. ⌜ r ≡ entry-of card ⌝ }
 {
-    match header_sheet(given) {
-        Ok(sheet) => Entry::Worked(sheet),
-        Err(fault) => Entry::Refused(Fault::from(fault)),
+    match card {
+        Card::Header(given) => match header_sheet(given) {
+            Ok(sheet) => Entry::Header(sheet),
+            Err(fault) => Entry::Refused(Fault::from(fault)),
+        },
+        Card::Fin(given) => match fin_sheet(given) {
+            Ok(sheet) => Entry::Fin(sheet),
+            Err(fault) => Entry::Refused(Fault::from(fault)),
+        },
     }
 }
 
@@ -46,11 +55,11 @@ fn put_line(out: &mut String, key: &str, value: u64) -> Result<(), AllocError>
     }
 }
 
-// Adds the eight lines of a header plate's sheet.
-fn put_sheet(out: &mut String, sheet: Sheet) -> Result<(), AllocError>
-    ensures { λ r. ⌜ made r (λ _. string-bytes (now (out .exit)) ≡ string-bytes (now (out .entry)) ++ sheet-text 72 sheet) ⌝ }
+// Adds the eight lines of a sheet, of which the first, that of its kind, is given.
+fn put_sheet(out: &mut String, first: &str, sheet: Sheet) -> Result<(), AllocError>
+    ensures { λ r. ⌜ made r (λ _. string-bytes (now (out .exit)) ≡ string-bytes (now (out .entry)) ++ (now (first .entry) ++ sheet-lines sheet)) ⌝ }
 {
-    out.push_str("joint=H\n")?;
+    out.push_str(first)?;
     put_line(out, "shear", sheet.shear.figure)?;
     put_line(out, "mode", sheet.shear.mode as u64)?;
     put_line(out, "tie", sheet.tying.figure)?;
@@ -76,7 +85,8 @@ impl Entry {
         ensures { λ r. ⌜ made r (λ _. string-bytes (now (out .exit)) ≡ string-bytes (now (out .entry)) ++ entry-text self) ⌝ }
     {
         match self {
-            Entry::Worked(sheet) => put_sheet(out, sheet),
+            Entry::Header(sheet) => put_sheet(out, "joint=H\n", sheet),
+            Entry::Fin(sheet) => put_sheet(out, "joint=F\n", sheet),
             Entry::Refused(fault) => put_fault(out, fault),
         }
     }

@@ -18,13 +18,13 @@ loop-rest-holds c = subst (Sofar (c .args .text .now) (c .args .text .now)) (sym
 
 pub loop-rest-again : need.loop-rest-again
 loop-rest-again c =
-    card-passed (c .args .text .now) (c .loop-rest .rest .now) (string-bytes (c .loop-rest .out)) (string-bytes (c .put .last .out)) (c .in-Ok .joint) (c .in-Ok .taken) (c .judge .result)
+    card-passed (c .args .text .now) (c .loop-rest .rest .now) (string-bytes (c .loop-rest .out)) (string-bytes (c .put .last .out)) (c .in-Ok .card) (c .in-Ok .taken) (c .judge .result)
     (c .loop-rest .inv) (c .in-Ok .ensures tt .reads) (c .judge .ensures) (c .in-Continue-put .ensures tt)
 
 pub loop-rest-less : need.loop-rest-less
 loop-rest-less c =
     let took = c .in-Ok .ensures tt .reads in
-    let some = some-taken (c .loop-rest .rest .now) (c .in-Ok .joint) (c .in-Ok .taken) took in
+    let some = some-taken (c .loop-rest .rest .now) (c .in-Ok .card) (c .in-Ok .taken) took in
     let within = took .within in
     let short = ap length (take-rest (c .loop-rest .rest .now) (c .in-Ok .taken)) in
     omega (arith, length-drop (c .in-Ok .taken) (c .loop-rest .rest .now))

@@ -2,7 +2,6 @@
 use mathlib.Core.List.{_++_}
 use lib.Chars.{codes}
 use Rattle.std.specs.Of.String.{string-bytes}
-use Rattle.card.specs.Kinds.{kindLine}
 use Rattle.card.specs.Text.{lineOf}
 use Rattle.account.proofs.Puts.{then-put}
 use Rattle.account.proofs.entry.put_sheet.Needs as need
@@ -24,7 +23,7 @@ returns c =
     let four = tiemode ++ five in
     let three = tie ++ four in
     let two = mode ++ three in
-    then-put r out (shear ++ two) (string-bytes (c .args .out .now)) (kindLine 72) (c .in-Continue-push-str .ensures tt .bytes)
+    then-put r out (shear ++ two) (string-bytes (c .args .out .now)) (c .args .first .now) (c .in-Continue-push-str .ensures tt .bytes)
     (then-put r out two (string-bytes (c .push-str .last .self)) shear (c .in-Continue-put-line .ensures tt)
     (then-put r out three (string-bytes (c .put-line .last .out)) mode (c .in-Continue-put-line-2 .ensures tt)
     (then-put r out four (string-bytes (c .put-line-2 .last .out)) tie (c .in-Continue-put-line-3 .ensures tt)

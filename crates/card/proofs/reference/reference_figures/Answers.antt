@@ -2,9 +2,9 @@
 use mathlib.Core.Path.{refl}
 use Rattle.components.specs.Tabled.{fu, fub, hole-of, stress-of}
 use Rattle.resistance.specs.Fractions.{smaller}
-use Rattle.resistance.specs.Roots.{R}
+use Rattle.resistance.specs.Roots.{R, rootUp}
 use Rattle.card.proofs.reference.reference_figures.Needs as need
 
 pub returns : need.returns
-unfolding R smaller fu fub hole-of stress-of
+unfolding R rootUp smaller fu fub hole-of stress-of
 returns c = refl
