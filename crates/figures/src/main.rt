@@ -1,7 +1,9 @@
-// Reads cards from standard input and prints a line for each: the figures of its modes, or `refused`.
+// Reads cards from standard input and prints a line for each: the letter of its kind and the figures of its modes, or `refused`.
+use card::card::Card;
 use card::card::read_card;
+use fin::fin::Fin;
+use fin::kind::FinKind;
 use header::header::Header;
-use header::joint::HeaderJoint;
 use header::kind::HeaderKind;
 use joint::kind::Kind;
 use std::error::AnyError;
@@ -9,39 +11,44 @@ use std::io;
 use std::io::Read;
 
 // The figure of a mode, `-` where it does not bind, and `?` where that and the figure disagree.
-fn print_figure(rt: &LibcRuntime, joint: &Header, mode: u32) -> io::Result<()> {
+fn print_figure<K: Kind>(rt: &LibcRuntime, joint: &K, mode: u32) -> io::Result<()> {
     match (joint.figure(mode), joint.binds(mode)) {
-        (Some(figure), true) => print!(rt, "{figure}"),
-        (None, false) => print!(rt, "-"),
-        _ => print!(rt, "?"),
+        (Some(figure), true) => print!(rt, " {figure}"),
+        (None, false) => print!(rt, " -"),
+        _ => print!(rt, " ?"),
     }
 }
 
-fn print_figures(rt: &LibcRuntime, joint: &Header) -> io::Result<()> {
-    for mode in 1..=Header::shear_count() {
-        if mode > 1 {
-            print!(rt, " ")?;
-        }
-        print_figure(rt, joint, mode)?;
+// The shear modes, and then the tying modes.
+fn print_figures<K: Kind>(rt: &LibcRuntime, joint: &K) -> io::Result<()> {
+    for i in 0..K::shear_count() {
+        print_figure(rt, joint, 1 + i)?;
+    }
+    for i in 0..K::tying_count() {
+        print_figure(rt, joint, 21 + i)?;
     }
     println!(rt)
 }
 
-fn print_joint(rt: &LibcRuntime, given: HeaderJoint) -> io::Result<()> {
-    match Header::admit(given) {
-        Ok(joint) => print_figures(rt, &joint),
-        Err(_) => println!(rt, "refused"),
-    }
+fn print_joint<K: Kind>(rt: &LibcRuntime, letter: &str, given: K::Joint) -> io::Result<()> {
+    let Ok(joint) = K::admit(given) else {
+        return println!(rt, "refused");
+    };
+    print!(rt, "{letter}")?;
+    print_figures(rt, &joint)
 }
 
 // A card that is not read is the last, since nobody knows where the next one starts.
 fn print_cards(rt: &LibcRuntime, text: &[u8]) -> io::Result<()> {
     let mut rest = text;
     while !rest.is_empty() {
-        let Ok((given, taken)) = read_card(rest) else {
+        let Ok((card, taken)) = read_card(rest) else {
             return println!(rt, "refused");
         };
-        print_joint(rt, given)?;
+        match card {
+            Card::Header(given) => print_joint::<Header>(rt, "H", given)?,
+            Card::Fin(given) => print_joint::<Fin>(rt, "F", given)?,
+        }
         rest = &rest[taken..];
     }
     Ok(())

@@ -1,5 +1,7 @@
 // The cards of the trials.
 use components::bolts::Bolts;
+use fin::joint as fin_joint;
+use fin::joint::FinJoint;
 use header::joint::Demands;
 use header::joint::HeaderJoint;
 use header::joint::Layout;
@@ -8,7 +10,7 @@ use header::joint::Steels;
 use std::alloc::AllocError;
 use std::alloc::Global;
 
-// Three bolts M20 of class 8.8 in each column, with the thread in the shear plane.
+// Three bolts M20 of class 8.8 in a column, with the thread in the shear plane.
 const BOLTS: Bolts = Bolts {
     bolt: 20,
     grade: 88,
@@ -74,6 +76,38 @@ pub(crate) fn reference_card(e1: u32, he: u32) -> HeaderJoint {
             db: 300,
             phi: 20000,
             v: 0,
+        },
+    }
+}
+
+// The reference card of fin plates.
+pub(crate) fn fin_card() -> FinJoint {
+    FinJoint {
+        steels: fin_joint::Steels {
+            plate: 275,
+            web: 275,
+        },
+        bolts: BOLTS,
+        layout: fin_joint::Layout {
+            e1: 40,
+            p1: 70,
+            e2: 50,
+            z: 60,
+        },
+        parts: fin_joint::Parts {
+            tp: 100,
+            tw: 60,
+            e1b: 80,
+            e2b: 50,
+            av: 2500,
+            a: 48,
+        },
+        demands: fin_joint::Demands {
+            he: 40,
+            db: 280,
+            phi: 22000,
+            v: 120000,
+            n: 75000,
         },
     }
 }

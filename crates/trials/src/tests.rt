@@ -1,12 +1,18 @@
+use crate::cards::fin_card;
 use crate::cards::reference_card;
 use crate::cards::reference_text;
 use crate::cards::trade_card;
 use account::account::account;
+use card::card::Card;
+use card::card::CardDebug;
+use card::card::CardPartialEq;
 use card::card::read_card;
 use card::fault::TextFaultDebug;
+use fin::fin::Fin;
+use fin::joint::FinJoint;
+use fin::kind::FinKind;
+use fin::sheet::fin_sheet;
 use header::header::Header;
-use header::joint::HeaderJointDebug;
-use header::joint::HeaderJointPartialEq;
 use header::kind::HeaderKind;
 use header::sheet::header_sheet;
 use joint::fault::JointFault;
@@ -97,6 +103,87 @@ fn end_distance_edge() -> Result<(), Fail> {
     check_eq(fault.code(), (2, 22, 8))
 }
 
+// The sheet of the fin plate, with the requirements that it does not meet.
+fn known_fin_sheet(unmet: u32, count: u32) -> Sheet {
+    Sheet {
+        shear: Governing {
+            mode: 8,
+            figure: 147559,
+        },
+        tying: Governing {
+            mode: 25,
+            figure: 293181,
+        },
+        class: 2,
+        unmet,
+        count,
+    }
+}
+
+// A weld of 4.7 mm is too thin for this plate.
+#[test]
+fn fin_sheets() -> Result<(), Fail> {
+    let mut card = fin_card();
+    check_eq(fin_sheet(card)?, known_fin_sheet(0, 0))?;
+    card.parts.a = 47;
+    check_eq(fin_sheet(card)?, known_fin_sheet(8, 1))
+}
+
+// The modes that a fin plate has, and those around them that it has not.
+#[test]
+fn fin_modes() -> Result<(), Fail> {
+    let joint = Fin::admit(fin_card())?;
+    check_eq(joint.figure(0), None)?;
+    check_eq(joint.figure(1), Some(173278))?;
+    check_eq(joint.figure(6), None)?;
+    check_eq(joint.figure(11), Some(197431))?;
+    check_eq(joint.figure(12), None)?;
+    check_eq(joint.figure(20), None)?;
+    check_eq(joint.figure(21), Some(352800))?;
+    check_eq(joint.figure(27), Some(496908))?;
+    check_eq(joint.figure(28), None)
+}
+
+fn fin_fault(card: FinJoint) -> Option<JointFault> {
+    Fin::admit(card).err()
+}
+
+#[test]
+fn fin_end_distance_edge() -> Result<(), Fail> {
+    let mut card = fin_card();
+    card.layout.e1 = 27;
+    check_eq(fin_fault(card), None)?;
+    card.layout.e1 = 26;
+    check_eq(fin_fault(card), Some(JointFault::TooClose(7)))
+}
+
+// The plate is at least 0.15 times as thick as the lever arm is long.
+#[test]
+fn fin_thickness_edge() -> Result<(), Fail> {
+    let mut card = fin_card();
+    card.parts.tp = 90;
+    check_eq(fin_fault(card), None)?;
+    card.parts.tp = 89;
+    let fault = fin_fault(card).ok_or("admitted")?;
+    check_eq(fault, JointFault::PlateTooThin(11))?;
+    check_eq(fault.code(), (2, 23, 11))
+}
+
+#[test]
+fn fin_no_gap() -> Result<(), Fail> {
+    let mut card = fin_card();
+    card.parts.e2b = 60;
+    check_eq(fin_fault(card), Some(JointFault::NoGap(14)))
+}
+
+// The holes take the whole shear area.
+#[test]
+fn fin_used_up() -> Result<(), Fail> {
+    let mut card = fin_card();
+    card.parts.av = 300;
+    check_eq(fin_fault(card), Some(JointFault::UsedUp(15)))
+}
+
 // The fault of a text that is no card.
 fn text_fault(text: &[u8]) -> Option<(u32, u32, usize)> {
     match read_card(text) {
@@ -108,7 +195,7 @@ fn text_fault(text: &[u8]) -> Option<(u32, u32, usize)> {
 #[test]
 fn text_faults() -> Result<(), Fail> {
     check_eq(text_fault(b""), Some((1, 12, 1)))?;
-    check_eq(text_fault(b"joint=F\nplate=275\n"), Some((1, 11, 1)))?;
+    check_eq(text_fault(b"joint=G\nplate=275\n"), Some((1, 11, 1)))?;
     check_eq(
         text_fault(b"joint=H\nplate=275\nsupp=275\n"),
         Some((1, 13, 3)),
@@ -122,8 +209,8 @@ fn text_faults() -> Result<(), Fail> {
 #[test]
 fn card_read(rt: LibcRuntime) -> Result<(), Fail> {
     let text = reference_text(rt.alloc(), 40)?;
-    let (joint, taken) = read_card(text.as_bytes())?;
-    check_eq(joint, reference_card(40, 0))?;
+    let (card, taken) = read_card(text.as_bytes())?;
+    check_eq(card, Card::Header(reference_card(40, 0)))?;
     check_eq(taken, text.len())
 }
 
@@ -148,7 +235,7 @@ fn account_goes_on(rt: LibcRuntime) -> Result<(), Fail> {
 fn account_ends(rt: LibcRuntime) -> Result<(), Fail> {
     let heap = rt.alloc();
     let good = reference_text(heap, 40)?;
-    let text = format!(heap, "{good}joint=F\n{good}")?;
+    let text = format!(heap, "{good}joint=G\n{good}")?;
     let expected = format!(heap, "{WORKED}layer=1\nfault=11\nat=1\n")?;
     check_eq(account(heap, text.as_bytes())?.as_str(), expected.as_str())
 }
