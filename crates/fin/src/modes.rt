@@ -47,7 +47,7 @@ impl Fin {
         self.column().depth()
     }
 
-    // The same of the beam web.
+    // Gw: twice the net shear length of the torn block of the beam web.
     fn web_torn_length(&self) -> u64
         ensures value { λ r. ⌜ r ≡ web-torn-of (now (self .entry) .joint) ⌝ }
         ensures bound { λ r. ⌜ r ≤ 4200 ⌝ }
