@@ -1,4 +1,6 @@
 // The card of a joint: its text is read into the joint's fields, or refused at its first fault.
+#![tactic(auto)]
+
 pub mod card;
 pub mod fault;
 pub mod fin_card;

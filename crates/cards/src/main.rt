@@ -1,4 +1,6 @@
 // Reads cards from standard input and prints their account.
+#![tactic(auto)]
+
 use account::account::account;
 use std::io::Read;
 

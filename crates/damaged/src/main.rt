@@ -1,4 +1,6 @@
 // Reads texts of cards from standard input, parted by the byte 0x1e, and prints the account of each, then a line `--`.
+#![tactic(auto)]
+
 use account::account::account;
 use std::io::Read;
 

@@ -1,4 +1,6 @@
 // A day on the rail: orders from standard input, carried out on a rail of each kind, and an account of every call.
+#![tactic(auto)]
+
 ghost use Rattle.std.specs.Prelude.{◌<◌, ◌≤◌, length, IfSome, IfOk, OnOk};
 ghost use Rattle.day.specs.Desks.{Went};
 ghost use Rattle.fin.specs.FinKinds.{fin_kind};

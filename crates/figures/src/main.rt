@@ -1,4 +1,6 @@
 // Reads cards from standard input and prints a line for each: the letter of its kind and the figures of its modes, or `refused`.
+#![tactic(auto)]
+
 use card::card::{Card, read_card};
 use fin::fin::Fin;
 use header::header::Header;

@@ -1,4 +1,6 @@
 // Fin plates: what a card says, what the sheet admits, the modes, the requirements and what the figures mean.
+#![tactic(auto)]
+
 mod admission;
 pub mod fin;
 pub mod joint;

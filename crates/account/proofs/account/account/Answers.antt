@@ -14,7 +14,7 @@ loop-rest-init c = subst (Sofar c.args.text.now c.args.text.now) (sym c.new-out.
 pub loop-rest-preserved : goal.loop-rest-preserved
 loop-rest-preserved c =
     card_passed c.args.text.now c.loop-rest.rest.now (string_bytes c.loop-rest.out) (string_bytes c.put.new.out) c.in-Ok.card c.in-Ok.taken c.judge.result
-    c.loop-rest.invariant c.in-Ok.ensures.reads c.judge.ensures c.in-ok-put.ensures
+    c.loop-rest.invariant c.in-Ok.ensures.reads c.judge.ensures c.in_ok-put.ensures
 
 pub loop-rest-smaller : goal.loop-rest-smaller
 loop-rest-smaller c =
@@ -33,4 +33,4 @@ pub returns-in-Err : goal.returns-in-Err
 returns-in-Err c =
     fault_ends c.args.text.now c.loop-rest.rest.now (string_bytes c.loop-rest.out) (string_bytes c.put-in-Err.new.out) c.in-Err.fault
     c.loop-rest.invariant (let ne = eqb-false (length c.loop-rest.rest.now) 0 (sym c.loop-rest-test.ensures) in omega arith) c.in-Err.ensures.reads
-    (c.in-ok-put-2.ensures ∙ ap (λ (f : Fault). string_bytes c.loop-rest.out ++ entry_text (Refused f)) c.from.ensures)
+    (c.in_ok-put-2.ensures ∙ ap (λ (f : Fault). string_bytes c.loop-rest.out ++ entry_text (Refused f)) c.from.ensures)

@@ -77,23 +77,23 @@ returns-in-Ok c =
     let h = c.in-Ok.ensures in
     record { reads = record { small = h.reads.small; within = h.reads.within; taken = h.reads.taken }; unique = header_took _ _ _ h.reads h.unique }
 
-pub returns-in-default : goal.returns-in-default
-returns-in-default c =
+pub returns-in_default : goal.returns-in_default
+returns-in_default c =
     let h = c.in-Err.ensures in
-    let ne = c.in-default.not-NotJoint in
+    let ne = c.in_default.not-NotJoint in
     record { reads = header_refused _ _ ne h.reads; unique = header_unique _ _ ne h.reads h.unique }
 
-pub returns-in-ok-joint : goal.returns-in-ok-joint
-returns-in-ok-joint c =
+pub returns-in_ok-joint : goal.returns-in_ok-joint
+returns-in_ok-joint c =
     let h = c.in-Err.ensures in
-    let k = c.in-ok-joint.ensures in
-    let both = fin_arm _ _ c.in-NotJoint.is h.reads h.unique (Ok (c.in-ok-joint.joint, c.in-ok-joint.taken)) k.reads k.unique in
+    let k = c.in_ok-joint.ensures in
+    let both = fin_arm _ _ c.in-NotJoint.is h.reads h.unique (Ok (c.in_ok-joint.joint, c.in_ok-joint.taken)) k.reads k.unique in
     record { reads = both.0; unique = both.1 }
 
-pub returns-in-err-joint : goal.returns-in-err-joint
-returns-in-err-joint c =
-    let p = err_from_is_err_and c.from-residual.result c.from-residual.ensures.1 in
+pub returns-in_err-joint : goal.returns-in_err-joint
+returns-in_err-joint c =
+    let p = err_from_is_err_and c.from_residual.result c.from_residual.ensures.1 in
     let h = c.in-Err.ensures in
-    let k = c.in-err-joint.ensures in
-    let both = fin_arm _ _ c.in-NotJoint.is h.reads h.unique (Err c.in-err-joint.field-0.0) k.reads k.unique in
+    let k = c.in_err-joint.ensures in
+    let both = fin_arm _ _ c.in-NotJoint.is h.reads h.unique (Err c.in_err-joint.field-0.0) k.reads k.unique in
     rw (p.1, p.2) (record { reads = both.0; unique = both.1 })

@@ -6,28 +6,28 @@ use Rattle.card.proofs.Joints.{joint_took, joint_refused, kind_accepted, behind_
 use Rattle.card.proofs.Laws.{cleans}
 use Rattle.card.proofs.kind.read_joint.Goals as goal
 
-pub returns-in-err-start : goal.returns-in-err-start
-returns-in-err-start g c =
-    let p = err_from_is_err_and c.from-residual.result c.from-residual.ensures.1 in
+pub returns-in_err-start : goal.returns-in_err-start
+returns-in_err-start g c =
+    let p = err_from_is_err_and c.from_residual.result c.from_residual.ensures.1 in
     let is = c.letter.ensures.named in
-    let bad : NotKind g.J.CardKind.initial c.args.text.now p.0 = subst (λ (l : ℕ). NotKind l c.args.text.now p.0) is (rw p.2 c.in-err-start.ensures) in
+    let bad : NotKind g.J.CardKind.initial c.args.text.now p.0 = subst (λ (l : ℕ). NotKind l c.args.text.now p.0) is (rw p.2 c.in_err-start.ensures) in
     let plain : g.J.CardKind.initial ≡ 10 → ⊥ = λ e. c.letter.ensures.plain (is ∙ e) in
     record { reads = rw p.1 (inl bad); unique = λ j rest low e. absurd (kind_accepted _ _ _ _ plain e bad) }
 
-pub returns-in-err-values : goal.returns-in-err-values
-returns-in-err-values g c =
-    let p = err_from_is_err_and c.from-residual-in-err-values.result c.from-residual-in-err-values.ensures.1 in
-    let t = c.key-table.ensures in
+pub returns-in_err-values : goal.returns-in_err-values
+returns-in_err-values g c =
+    let p = err_from_is_err_and c.from_residual-in_err-values.result c.from_residual-in_err-values.ensures.1 in
+    let t = c.key_table.ensures in
     let bad : Behind g.J.CardKind.initial g.J.CardKind.keys c.args.text.now p.0 =
-    joint_refused _ _ _ _ _ c.letter.ensures.named c.in-ok-start.ensures _ t.table _ (rw p.2 c.in-err-values.ensures) in
+    joint_refused _ _ _ _ _ c.letter.ensures.named c.in_ok-start.ensures _ t.table _ (rw p.2 c.in_err-values.ensures) in
     record { reads = rw p.1 (inr bad); unique = λ j rest low e. absurd (behind_accepted _ _ _ _ _ _ (cleans _ t.clean) (t.counted j) low e bad) }
 
 pub returns : goal.returns
 returns g c =
-    let t = c.key-table.ensures in
+    let t = c.key_table.ensures in
     let joint = c.of_values.result in
-    let made : TookJoint g.J.CardKind.initial g.J.CardKind.keys (g.J.CardKind.fields joint) c.args.text.now (c.in-ok-start.start + c.in-ok-values.taken) =
-    joint_took _ _ _ _ _ c.letter.ensures.named c.in-ok-start.ensures _ t.table _ _ _ c.in-ok-values.ensures c.of_values.ensures.made in
+    let made : TookJoint g.J.CardKind.initial g.J.CardKind.keys (g.J.CardKind.fields joint) c.args.text.now (c.in_ok-start.start + c.in_ok-values.taken) =
+    joint_took _ _ _ _ _ c.letter.ensures.named c.in_ok-start.ensures _ t.table _ _ _ c.in_ok-values.ensures c.of_values.ensures.made in
     record {
       reads = made;
       unique = λ j rest low e.

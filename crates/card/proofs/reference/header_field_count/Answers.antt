@@ -5,5 +5,5 @@ use Rattle.card.proofs.reference.header_field_count.Goals as goal
 
 pub returns : goal.returns
 returns c =
-    let n : length c.key-table.result.now ≡ 20 = sym (length-map c.key-table.result.now (λ (r : Bor (List ℕ)). r.now)) ∙ ap length c.key-table.ensures.table in
+    let n : length c.key_table.result.now ≡ 20 = sym (length-map c.key_table.result.now (λ (r : Bor (List ℕ)). r.now)) ∙ ap length c.key_table.ensures.table in
     record { keys = n; kind = n }

@@ -7,6 +7,6 @@ use Rattle.components.proofs.tables.bolt_strength.Goals as goal
 pub returns : goal.returns
 unfolding fub
 returns c = record {
-  value = c.row-of.ensures;
-  bound = subst (λ (n : ℕ). n ≤ 1000) (sym c.row-of.ensures) (row_most 1000 bolt_strengths refl c.args.grade);
+  value = c.row_of.ensures;
+  bound = subst (λ (n : ℕ). n ≤ 1000) (sym c.row_of.ensures) (row_most 1000 bolt_strengths refl c.args.grade);
 }

@@ -7,6 +7,6 @@ use Rattle.components.proofs.tables.hole.Goals as goal
 pub returns : goal.returns
 unfolding hole_of
 returns c = record {
-  value = c.row-of.ensures;
-  bound = subst (λ (n : ℕ). n ≤ 33) (sym c.row-of.ensures) (row_most 33 holes refl c.args.bolt);
+  value = c.row_of.ensures;
+  bound = subst (λ (n : ℕ). n ≤ 33) (sym c.row_of.ensures) (row_most 33 holes refl c.args.bolt);
 }

@@ -7,6 +7,6 @@ use Rattle.components.proofs.tables.shank_area.Goals as goal
 pub returns : goal.returns
 unfolding shank_of
 returns c = record {
-  value = c.row-of.ensures;
-  bound = subst (λ (n : ℕ). n ≤ 707) (sym c.row-of.ensures) (row_most 707 shank_areas refl c.args.bolt);
+  value = c.row_of.ensures;
+  bound = subst (λ (n : ℕ). n ≤ 707) (sym c.row_of.ensures) (row_most 707 shank_areas refl c.args.bolt);
 }

@@ -7,6 +7,6 @@ use Rattle.components.proofs.tables.stress_area.Goals as goal
 pub returns : goal.returns
 unfolding stress_of
 returns c = record {
-  value = c.row-of.ensures;
-  bound = subst (λ (n : ℕ). n ≤ 561) (sym c.row-of.ensures) (row_most 561 stress_areas refl c.args.bolt);
+  value = c.row_of.ensures;
+  bound = subst (λ (n : ℕ). n ≤ 561) (sym c.row_of.ensures) (row_most 561 stress_areas refl c.args.bolt);
 }

@@ -7,6 +7,6 @@ use Rattle.components.proofs.tables.ultimate_strength.Goals as goal
 pub returns : goal.returns
 unfolding fu
 returns c = record {
-  value = c.row-of.ensures;
-  bound = subst (λ (n : ℕ). n ≤ 540) (sym c.row-of.ensures) (row_most 540 strengths refl c.args.steel);
+  value = c.row_of.ensures;
+  bound = subst (λ (n : ℕ). n ≤ 540) (sym c.row_of.ensures) (row_most 540 strengths refl c.args.steel);
 }

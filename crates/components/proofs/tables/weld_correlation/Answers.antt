@@ -7,6 +7,6 @@ use Rattle.components.proofs.tables.weld_correlation.Goals as goal
 pub returns : goal.returns
 unfolding weld_factor
 returns c = record {
-  value = c.row-of.ensures;
-  bound = subst (λ (n : ℕ). n ≤ 100) (sym c.row-of.ensures) (row_most 100 weld_factors refl c.args.steel);
+  value = c.row_of.ensures;
+  bound = subst (λ (n : ℕ). n ≤ 100) (sym c.row_of.ensures) (row_most 100 weld_factors refl c.args.steel);
 }

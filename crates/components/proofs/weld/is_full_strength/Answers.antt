@@ -4,27 +4,27 @@ use Rattle.components.proofs.Listed.{weld_most}
 use Rattle.components.proofs.Plates.{weld_squares}
 use Rattle.components.proofs.weld.is_full_strength.Goals as goal
 
-pub overflow-mul-result : goal.overflow-mul-result
-overflow-mul-result c =
-    let f : c.weld-correlation.result * c.args.steel ≤ 46000 = subst (λ (n : ℕ). n * c.args.steel ≤ 46000) (sym c.weld-correlation.ensures.value) (weld_most c.args.steel) in
+pub overflow_mul-result : goal.overflow_mul-result
+overflow_mul-result c =
+    let f : c.weld_correlation.result * c.args.steel ≤ 46000 = subst (λ (n : ℕ). n * c.args.steel ≤ 46000) (sym c.weld_correlation.ensures.value) (weld_most c.args.steel) in
     let t : c.args.thickness ≤ 4294967295 = omega arith in
     omega (arith, mul-le-mul t f)
 
-pub overflow-mul-result-2 : goal.overflow-mul-result-2
-overflow-mul-result-2 c =
-    let f : c.weld-correlation.result * c.args.steel ≤ 46000 = subst (λ (n : ℕ). n * c.args.steel ≤ 46000) (sym c.weld-correlation.ensures.value) (weld_most c.args.steel) in
+pub overflow_mul-result-2 : goal.overflow_mul-result-2
+overflow_mul-result-2 c =
+    let f : c.weld_correlation.result * c.args.steel ≤ 46000 = subst (λ (n : ℕ). n * c.args.steel ≤ 46000) (sym c.weld_correlation.ensures.value) (weld_most c.args.steel) in
     let t : c.args.thickness ≤ 4294967295 = omega arith in
     let m = mul-le-mul t f in
     omega (arith, mul-le-mul m m)
 
-pub overflow-mul-result-3 : goal.overflow-mul-result-3
-overflow-mul-result-3 c =
+pub overflow_mul-result-3 : goal.overflow_mul-result-3
+overflow_mul-result-3 c =
     let a : c.args.throat ≤ 4294967295 = omega arith in
-    let m = mul-le-mul a c.ultimate-strength.ensures.bound in
+    let m = mul-le-mul a c.ultimate_strength.ensures.bound in
     omega (arith, mul-le-mul m m)
 
 pub returns : goal.returns
 returns c =
-    weld_squares c.args.thickness c.weld-correlation.result c.args.steel c.args.throat c.ultimate-strength.result
+    weld_squares c.args.thickness c.weld_correlation.result c.args.steel c.args.throat c.ultimate_strength.result
     ∙ ap₂ (λ (b fu : ℕ). ltb (3 * c.args.thickness * c.args.thickness * b * b * c.args.steel * c.args.steel) (40000 * c.args.throat * c.args.throat * fu * fu))
-    c.weld-correlation.ensures.value c.ultimate-strength.ensures.value
+    c.weld_correlation.ensures.value c.ultimate_strength.ensures.value

@@ -6,7 +6,7 @@ use Rattle.joint.proofs.govern.lowest_of.Goals as goal
 pub loop-i-preserved : goal.loop-i-preserved
 loop-i-preserved g c =
     lowest_more (g.K.Kind.printed c.args.joint.now) c.args.first c.loop-i.i
-    c.better-of-best.ensures
+    c.better_of-best.ensures
     c.figure.ensures
     c.loop-i.invariant
 

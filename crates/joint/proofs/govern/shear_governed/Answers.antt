@@ -7,5 +7,5 @@ use Rattle.joint.proofs.govern.shear_governed.Goals as goal
 pub returns : goal.returns
 returns g c =
     let f = g.K.Kind.printed c.args.joint.now in
-    let found = subst (λ (n : ℕ). Found f 1 n c.lowest-of.result) c.shear-count.ensures c.lowest-of.ensures.words in
-    record { value = search rules; words = shear_named g.K.Kind g.met.K.Kind.meaning c.args.joint.now c.lowest-of.result found }
+    let found = subst (λ (n : ℕ). Found f 1 n c.lowest_of.result) c.shear_count.ensures c.lowest_of.ensures.words in
+    record { value = search rules; words = shear_named g.K.Kind g.met.K.Kind.meaning c.args.joint.now c.lowest_of.result found }

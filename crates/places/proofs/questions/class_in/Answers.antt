@@ -9,8 +9,8 @@ loop-place-preserved g c = (
       c.loop-place-test.true
       c.place-item.is
       c.loop-place.invariant.0
-      c.class-one-n.ensures,
-  omega (arith, c.class-one-n.ensures, class_at_most c.args.class c.place-item.result),
+      c.class_one-n.ensures,
+  omega (arith, c.class_one-n.ensures, class_at_most c.args.class c.place-item.result),
   omega arith,
 )
 

@@ -9,8 +9,8 @@ loop-place-preserved g c = (
       c.loop-place-test.true
       c.place-item.is
       c.loop-place.invariant.0
-      c.state-one-n.ensures,
-  omega (arith, c.state-one-n.ensures, state_at_most c.args.state c.place-item.result),
+      c.state_one-n.ensures,
+  omega (arith, c.state_one-n.ensures, state_at_most c.args.state c.place-item.result),
   omega arith,
 )
 

@@ -3,8 +3,8 @@ use Rattle.rail.specs.Runs.{played, told}
 use Rattle.rail.proofs.Pushes.{played_more, told_more}
 use Rattle.rail.proofs.replay.play.Goals as goal
 
-pub offset-bounds-out-i : goal.offset-bounds-out-i
-offset-bounds-out-i g c = let room : c.loop-i.i < length c.args.out.now = omega arith in search rules
+pub offset_bounds-out-i : goal.offset_bounds-out-i
+offset_bounds-out-i g c = let room : c.loop-i.i < length c.args.out.now = omega arith in search rules
 
 pub loop-i-preserved : goal.loop-i-preserved
 loop-i-preserved g c =

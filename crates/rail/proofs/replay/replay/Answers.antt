@@ -10,4 +10,4 @@ returns g c =
     c.clear.ensures
     c.play.ensures.places
     c.play.ensures.answers
-    (let made = c.in-ok-answers.ensures in omega (arith, c.play.auto.out, c.as-mut-slice.ensures.len))
+    (let made = c.in_ok-answers.ensures in omega (arith, c.play.auto.out, c.as_mut_slice.ensures.len))

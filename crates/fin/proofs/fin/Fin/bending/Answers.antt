@@ -3,7 +3,7 @@ use Rattle.std.proofs.Common.{mul-le-mul, arith}
 use Rattle.fin.specs.Ranges.{ranges}
 use Rattle.fin.proofs.fin.Fin.bending.Goals as goal
 
-pub overflow-mul-result-3 : goal.overflow-mul-result-3
-overflow-mul-result-3 c =
+pub overflow_mul-result-3 : goal.overflow_mul-result-3
+overflow_mul-result-3 c =
     let a = ranges c.args.self.now.joint c.args.self.now.ok in
     omega (arith, mul-le-mul (mul-le-mul (mul-le-mul a.tp_high c.depth-hp.ensures.bound) c.depth-hp.ensures.bound) a.plate.high)

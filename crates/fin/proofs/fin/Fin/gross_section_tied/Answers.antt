@@ -3,7 +3,7 @@ use Rattle.std.proofs.Common.{mul-le-mul, arith}
 use Rattle.fin.specs.Ranges.{ranges}
 use Rattle.fin.proofs.fin.Fin.gross_section_tied.Goals as goal
 
-pub overflow-mul-result-2 : goal.overflow-mul-result-2
-overflow-mul-result-2 c =
+pub overflow_mul-result-2 : goal.overflow_mul-result-2
+overflow_mul-result-2 c =
     let a = ranges c.args.self.now.joint c.args.self.now.ok in
-    omega (arith, mul-le-mul (mul-le-mul a.tp_high c.depth.ensures.bound) c.ultimate-strength-fu.ensures.bound)
+    omega (arith, mul-le-mul (mul-le-mul a.tp_high c.depth.ensures.bound) c.ultimate_strength-fu.ensures.bound)

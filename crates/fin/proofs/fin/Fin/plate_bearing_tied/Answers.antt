@@ -6,9 +6,9 @@ use Rattle.fin.proofs.Bears.{plate_limits_across}
 use Rattle.fin.specs.Ranges.{ranges}
 use Rattle.fin.proofs.fin.Fin.plate_bearing_tied.Goals as goal
 
-pub returns-in-err-total : goal.returns-in-err-total
-returns-in-err-total c =
+pub returns-in_err-total : goal.returns-in_err-total
+returns-in_err-total c =
     let j = c.args.self.now.joint in
-    let known = ultimate_known (on_plate j) (plate_k_across j) (plate_α_across j) c.plate-bolts.ensures c.plate-factors-across.ensures.0 c.plate-factors-across.ensures.1 (plate_limits_across j (ranges j c.args.self.now.ok)) in
-    let z : ◌≡◌ {A = ℕ} 0 1 = cc (known, c.in-err-total.ensures) in
+    let known = ultimate_known (on_plate j) (plate_k_across j) (plate_α_across j) c.plate_bolts.ensures c.plate_factors_across.ensures.0 c.plate_factors_across.ensures.1 (plate_limits_across j (ranges j c.args.self.now.ok)) in
+    let z : ◌≡◌ {A = ℕ} 0 1 = cc (known, c.in_err-total.ensures) in
     absurd (omega arith)

@@ -9,7 +9,7 @@ use Rattle.fin.proofs.fin.Fin.printed.Goals as goal
 pub returns : goal.returns
 returns c =
     let h = c.args.self.now in
-    c.figure.ensures.value ∙ figure_is (fin_mode h c.args.mode) c.in-ok-expression.field-0 (held_mode h c.args.mode) (sym c.in-ok-expression.ensures)
+    c.figure.ensures.value ∙ figure_is (fin_mode h c.args.mode) c.in_ok-expression.field-0 (held_mode h c.args.mode) (sym c.in_ok-expression.ensures)
 
-pub returns-in-err-expression : goal.returns-in-err-expression
-returns-in-err-expression c = c.from-residual.ensures ∙ ap printing c.in-err-expression.ensures
+pub returns-in_err-expression : goal.returns-in_err-expression
+returns-in_err-expression c = c.from_residual.ensures ∙ ap printing c.in_err-expression.ensures

@@ -8,57 +8,57 @@ use Rattle.fin.proofs.fin.Fin.shear_expression.Goals as goal
 
 pub returns-in-1 : goal.returns-in-1
 unfolding shear_modes
-returns-in-1 c = ap Some c.bolts-in-shear.ensures ∙ sym (ap (numbered None 1 (shear_modes c.args.self.now.joint)) c.in-1.is)
+returns-in-1 c = ap Some c.bolts_in_shear.ensures ∙ sym (ap (numbered None 1 (shear_modes c.args.self.now.joint)) c.in-1.is)
 
 pub returns-in-2 : goal.returns-in-2
 unfolding shear_modes
-returns-in-2 c = c.plate-in-bearing.ensures ∙ sym (ap (numbered None 1 (shear_modes c.args.self.now.joint)) c.in-2.is)
+returns-in-2 c = c.plate_in_bearing.ensures ∙ sym (ap (numbered None 1 (shear_modes c.args.self.now.joint)) c.in-2.is)
 
 pub returns-in-3 : goal.returns-in-3
 unfolding shear_modes
-returns-in-3 c = ap Some c.gross-section.ensures ∙ sym (ap (numbered None 1 (shear_modes c.args.self.now.joint)) c.in-3.is)
+returns-in-3 c = ap Some c.gross_section.ensures ∙ sym (ap (numbered None 1 (shear_modes c.args.self.now.joint)) c.in-3.is)
 
 pub returns-in-4 : goal.returns-in-4
 unfolding shear_modes
-returns-in-4 c = ap Some c.net-section.ensures ∙ sym (ap (numbered None 1 (shear_modes c.args.self.now.joint)) c.in-4.is)
+returns-in-4 c = ap Some c.net_section.ensures ∙ sym (ap (numbered None 1 (shear_modes c.args.self.now.joint)) c.in-4.is)
 
 pub returns-in-5 : goal.returns-in-5
 unfolding shear_modes
-returns-in-5 c = ap Some c.tearing-block.ensures ∙ sym (ap (numbered None 1 (shear_modes c.args.self.now.joint)) c.in-5.is)
+returns-in-5 c = ap Some c.tearing_block.ensures ∙ sym (ap (numbered None 1 (shear_modes c.args.self.now.joint)) c.in-5.is)
 
 pub returns-in-8 : goal.returns-in-8
 unfolding shear_modes
-returns-in-8 c = c.web-in-bearing.ensures ∙ sym (ap (numbered None 1 (shear_modes c.args.self.now.joint)) c.in-8.is)
+returns-in-8 c = c.web_in_bearing.ensures ∙ sym (ap (numbered None 1 (shear_modes c.args.self.now.joint)) c.in-8.is)
 
 pub returns-in-9 : goal.returns-in-9
 unfolding shear_modes
-returns-in-9 c = ap Some c.gross-web-section.ensures ∙ sym (ap (numbered None 1 (shear_modes c.args.self.now.joint)) c.in-9.is)
+returns-in-9 c = ap Some c.gross_web_section.ensures ∙ sym (ap (numbered None 1 (shear_modes c.args.self.now.joint)) c.in-9.is)
 
 pub returns-in-10 : goal.returns-in-10
 unfolding shear_modes
-returns-in-10 c = ap Some c.net-web-section.ensures ∙ sym (ap (numbered None 1 (shear_modes c.args.self.now.joint)) c.in-10.is)
+returns-in-10 c = ap Some c.net_web_section.ensures ∙ sym (ap (numbered None 1 (shear_modes c.args.self.now.joint)) c.in-10.is)
 
 pub returns-in-11 : goal.returns-in-11
 unfolding shear_modes
-returns-in-11 c = ap Some c.tearing-web-block.ensures ∙ sym (ap (numbered None 1 (shear_modes c.args.self.now.joint)) c.in-11.is)
+returns-in-11 c = ap Some c.tearing_web_block.ensures ∙ sym (ap (numbered None 1 (shear_modes c.args.self.now.joint)) c.in-11.is)
 
-pub returns-then-is-shallow : goal.returns-then-is-shallow
+pub returns-then-is_shallow : goal.returns-then-is_shallow
 unfolding shear_modes
-returns-then-is-shallow c =
+returns-then-is_shallow c =
     let j = c.args.self.now.joint in
-    ap Some c.bending.ensures ∙ sym (cond-true (shallow j) (Some (plate_bending j)) None (sym c.if-is-shallow.ensures))
+    ap Some c.bending.ensures ∙ sym (cond-true (shallow j) (Some (plate_bending j)) None (sym c.if-is_shallow.ensures))
     ∙ sym (ap (numbered None 1 (shear_modes j)) c.in-6.is)
 
-pub returns-else-is-shallow : goal.returns-else-is-shallow
+pub returns-else-is_shallow : goal.returns-else-is_shallow
 unfolding shear_modes
-returns-else-is-shallow c =
+returns-else-is_shallow c =
     let j = c.args.self.now.joint in
-    sym (cond-false (shallow j) (Some (plate_bending j)) None (sym c.if-is-shallow.ensures)) ∙ sym (ap (numbered None 1 (shear_modes j)) c.in-6.is)
+    sym (cond-false (shallow j) (Some (plate_bending j)) None (sym c.if-is_shallow.ensures)) ∙ sym (ap (numbered None 1 (shear_modes j)) c.in-6.is)
 
 pub returns-in-7 : goal.returns-in-7
 unfolding shear_modes
 returns-in-7 c = sym (ap (numbered None 1 (shear_modes c.args.self.now.joint)) c.in-7.is)
 
-pub returns-in-default : goal.returns-in-default
+pub returns-in_default : goal.returns-in_default
 unfolding shear_modes
-returns-in-default c = sym (outside None 1 (shear_modes c.args.self.now.joint) c.args.mode (λ k l e. omega arith))
+returns-in_default c = sym (outside None 1 (shear_modes c.args.self.now.joint) c.args.mode (λ k l e. omega arith))

@@ -5,4 +5,4 @@ use Rattle.fin.proofs.fin.Fin.spares_bolts.Goals as goal
 
 pub returns : goal.returns
 unfolding shear_modes
-returns c = ap₂ ltb (c.min.ensures ∙ ap₂ min c.figure-or-nought-plate.ensures c.figure-or-nought-web.ensures) c.figure-or-nought-bolts.ensures
+returns c = ap₂ ltb (c.min.ensures ∙ ap₂ min c.figure_or_nought-plate.ensures c.figure_or_nought-web.ensures) c.figure_or_nought-bolts.ensures

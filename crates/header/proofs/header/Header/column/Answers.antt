@@ -3,8 +3,8 @@ use Rattle.std.proofs.Common.{◌*◌, ◌≤◌, arith}
 use Rattle.header.specs.Ranges.{ranges}
 use Rattle.header.proofs.header.Header.column.Goals as goal
 
-pub invariant-of-result : goal.invariant-of-result
-invariant-of-result c =
+pub invariant_of-result : goal.invariant_of-result
+invariant_of-result c =
     let a = ranges c.args.self.now.joint c.args.self.now.ok in
     let l = c.args.self.now.joint.layout in
     let end : 12 * c.hole.result ≤ 10 * l.e1 = omega arith in

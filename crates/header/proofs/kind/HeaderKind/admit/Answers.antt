@@ -3,8 +3,8 @@ use Rattle.std.proofs.Common.{sym}
 use Rattle.header.specs.Tried.{no_fault, refused, accepted}
 use Rattle.header.proofs.kind.HeaderKind.admit.Goals as goal
 
-pub invariant-of-result : goal.invariant-of-result
-invariant-of-result c = (no_fault _ (sym c.in-Ok.ensures), tt)
+pub invariant_of-result : goal.invariant_of-result
+invariant_of-result c = (no_fault _ (sym c.in-Ok.ensures), tt)
 
 pub returns-in-Ok : goal.returns-in-Ok
 returns-in-Ok c = sym (accepted _)

@@ -15,9 +15,9 @@ returns-in-Root c = record { value = search rules; stands = stands _ }
 
 pub returns-in-Sum : goal.returns-in-Sum
 returns-in-Sum c =
-    let parts : c.floor-in-Sum.result + c.root-third-in-Sum.result ≡ dropped c.in-Sum.x + R (dropped c.in-Sum.y) = cc in
+    let parts : c.floor-in-Sum.result + c.root_third-in-Sum.result ≡ dropped c.in-Sum.x + R (dropped c.in-Sum.y) = cc in
     record {
-      value = checked_held _ _ c.checked-add.ensures ∙ ap held parts ∙ sym (ap figure_of c.in-Sum.is);
+      value = checked_held _ _ c.checked_add.ensures ∙ ap held parts ∙ sym (ap figure_of c.in-Sum.is);
       stands = stands _;
     }
 

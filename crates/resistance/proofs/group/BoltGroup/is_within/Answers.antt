@@ -2,8 +2,8 @@
 use Rattle.std.proofs.Common.{◌≤◌, mul-le-mul, arith}
 use Rattle.resistance.proofs.group.BoltGroup.is_within.Goals as goal
 
-pub overflow-mul-result-then-self-le1000000-3 : goal.overflow-mul-result-then-self-le1000000-3
-overflow-mul-result-then-self-le1000000-3 c =
+pub overflow_mul-result-then-self-le1000000-3 : goal.overflow_mul-result-then-self-le1000000-3
+overflow_mul-result-then-self-le1000000-3 c =
     let s : c.args.self.scale ≤ 1000000 = omega arith in
     let d : c.args.self.down ≤ 1000000 = omega arith in
     omega (arith, mul-le-mul s d)
