@@ -25,8 +25,8 @@ fn better_of(best: Governing, mode: u32, figure: Option<u64>) -> Governing
 // What governs of the `count` modes from `first` on.
 fn lowest_of<K: Kind>(joint: &K, first: u32, count: u32) -> Governing
     requires { (1 ≤ first) × (first + count ≤ 1000) }
-    ensures value { result ≡ lowest (printed joint.now) first count }
-    ensures words { Found (printed joint.now) first count result }
+    ensures value { result ≡ lowest (K.printed joint.now) first count }
+    ensures words { Found (K.printed joint.now) first count result }
 {
     let mut best = Governing { mode: 0, figure: 0 };
     for i in 0..count {
@@ -38,7 +38,7 @@ fn lowest_of<K: Kind>(joint: &K, first: u32, count: u32) -> Governing
 // The governing shear mode and its figure. There always is one, since mode 1 binds.
 pub fn shear_governed<K: Kind>(joint: &K) -> Governing
     ensures value { result ≡ governing_shear K.Kind joint.now }
-    ensures words { Governs (printed joint.now) 1 shear result }
+    ensures words { Governs (K.printed joint.now) 1 K.shear result }
 {
     lowest_of(joint, 1, K::shear_count())
 }
@@ -46,7 +46,7 @@ pub fn shear_governed<K: Kind>(joint: &K) -> Governing
 // The governing tying mode and its figure, or 0 and 0 where no tying mode binds.
 pub fn tying_governed<K: Kind>(joint: &K) -> Governing
     ensures value { result ≡ governing_tying K.Kind joint.now }
-    ensures words { Found (printed joint.now) 21 tying result }
+    ensures words { Found (K.printed joint.now) 21 K.tying result }
 {
     lowest_of(joint, 21, K::tying_count())
 }

@@ -9,4 +9,4 @@ invariant_of-result c =
     let l = c.args.self.now.joint.layout in
     let end : 12 * c.hole.result ≤ 10 * l.e1 = omega arith in
     let pitch : 22 * c.hole.result ≤ 10 * l.p1 = omega arith in
-    (a.rows_low, (a.rows_high, (a.e1_high, (a.p1_high, (end, (pitch, tt))))))
+    record { some = a.rows_low; few = a.rows_high; end = a.e1_high; pitch = a.p1_high; end_spaced = end; pitch_spaced = pitch }

@@ -4,7 +4,7 @@ use Rattle.fin.specs.Tried.{no_fault, refused, accepted}
 use Rattle.fin.proofs.kind.FinKind.admit.Goals as goal
 
 pub invariant_of-result : goal.invariant_of-result
-invariant_of-result c = (no_fault _ (sym c.in-Ok.ensures), tt)
+invariant_of-result c = record { ok = no_fault _ (sym c.in-Ok.ensures) }
 
 pub returns-in-Ok : goal.returns-in-Ok
 returns-in-Ok c = sym (accepted _)
