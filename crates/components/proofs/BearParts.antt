@@ -1,5 +1,5 @@
 -- The parts of a bearing total stay within 64 bits.
-use Rattle.std.proofs.Common.{◌≡◌, ℕ, ◌-◌, ◌*◌, ◌^◌, ◌<◌, ◌≤◌, Bool, true, false, cond, ◌&&◌, leb, Some, None, refl, ap, ◌∙◌, ap₂, mul-le-mul, mul-pos, arith}
+use Rattle.std.proofs.Common.{◌≡◌, ℕ, ◌*◌, ◌<◌, ◌≤◌, Bool, true, false, cond, leb, Some, None, refl, ap, ◌∙◌, ap₂, mul-le-mul, mul-pos, arith}
 use Rattle.std.proofs.lemmas.Bool.{and_parts, and_from, leb-true, le-leb, cond-true}
 use Rattle.resistance.specs.Fractions.{◌÷◌, ◌⊗◌, smaller}
 use Rattle.resistance.specs.declared.ratio.Ratio.{Ratio}

@@ -1,5 +1,5 @@
 -- What two bearing totals of one part come to where k is at least 1.38 and α at least 0.4 in both: neither is small, and one is at most five times the other.
-use Rattle.std.proofs.Common.{◌≡◌, ℕ, ◌+◌, ◌*◌, ◌/◌, ◌<◌, ◌≤◌, mul-le-mul_right, mul-le-mul, lt_of_mul-lt-mul_right, mul-pos, div-mul-le_self, le_of_mul-le-mul_right, arith}
+use Rattle.std.proofs.Common.{ℕ, ◌+◌, ◌*◌, ◌<◌, ◌≤◌, mul-le-mul_right, mul-le-mul, lt_of_mul-lt-mul_right, mul-pos, div-mul-le_self, le_of_mul-le-mul_right, arith}
 use native.Mathlib.Nat.{le_of_mul-le-mul_left, lt-div-mul-add}
 use Rattle.resistance.specs.Fractions.{◌÷◌, ◌⊗◌, ◌≼◌, smaller, dropped}
 use Rattle.resistance.specs.declared.ratio.Ratio.{Ratio}

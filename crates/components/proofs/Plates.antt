@@ -1,5 +1,5 @@
 -- Plain numbers: the depth of a plate, what its holes leave, and that they leave something; the two sides of the weld rule.
-use Rattle.std.proofs.Common.{◌≡◌, ℕ, ◌+◌, ◌-◌, ◌*◌, ◌<◌, ◌≤◌, ltb, ap₂, mul-le-mul, mul-le-mul_left, arith}
+use Rattle.std.proofs.Common.{◌≡◌, ℕ, ◌+◌, ◌-◌, ◌*◌, ◌≤◌, ltb, ap₂, mul-le-mul, mul-le-mul_left, arith}
 
 module _ (rows d e p : ℕ) (lo : 2 ≤ rows) (end : 12 * d ≤ 10 * e) (pitch : 22 * d ≤ 10 * p) where
   -- the holes of a column fit the plate's depth

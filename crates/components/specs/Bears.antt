@@ -1,5 +1,5 @@
 -- Bolts that bear on a part: the factors, their caps and the total, as exact fractions.
-use Rattle.std.specs.Prelude.{ℕ, ◌-◌, ◌*◌, ◌≤◌, Bool, cond, ◌&&◌, Some, None, Option, nat_le}
+use Rattle.std.specs.Prelude.{ℕ, ◌-◌, ◌*◌, Bool, cond, ◌&&◌, Some, None, Option, nat_le}
 use Rattle.resistance.specs.Fractions.{◌÷◌, ◌⊗◌, smaller}
 use Rattle.resistance.specs.declared.ratio.Ratio.{Ratio}
 use Rattle.components.specs.Tabled.{fu, fub, area_of, shear_of}

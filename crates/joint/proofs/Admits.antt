@@ -1,5 +1,5 @@
 -- What admission by the first fault answers.
-use Rattle.std.proofs.Common.{◌≡◌, ℕ, Bool, true, false, Some, None, Ok, Err, Option, Result, sym, refl, ap, ◌∙◌, arith}
+use Rattle.std.proofs.Common.{◌≡◌, ℕ, true, false, Some, None, Ok, Err, Option, sym, refl, ap, ◌∙◌, arith}
 use denote.Struct.Props.{≡_prop}
 use base.Stored.{coded_bool}
 use Rattle.joint.specs.Admission.{admitted, admission_by}

@@ -2,7 +2,6 @@
 use Rattle.std.proofs.Common.{◌≡◌, ℕ, ◌+◌, Bool, true, false, ◌&&◌, eqb, refl}
 use lib.Bits.{bit_or}
 use lib.Count.{ones, ones_in}
-use lib.Ieee.{size}
 use Rattle.std.proofs.lemmas.Bool.{and_parts, eqb-true}
 use Rattle.joint.specs.Unmet.{failed}
 

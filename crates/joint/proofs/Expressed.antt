@@ -1,5 +1,5 @@
 -- A kind whose modes are lists of expressions keeps the meaning of a kind, whatever the expressions are, if no mode that binds has a fraction over 0.
-use Rattle.std.proofs.Common.{◌≡◌, ℕ, ◌+◌, ◌≤◌, Bool, true, false, cond, eqb, ltb, ◌⊎◌, List, [], ◌∷◌, map, Some, None, Ok, Option, Result, sym, refl, ap, ◌∙◌, subst, inl, inr, arith}
+use Rattle.std.proofs.Common.{◌≡◌, ℕ, ◌+◌, ◌≤◌, Bool, true, false, cond, eqb, ltb, List, [], ◌∷◌, Some, None, Ok, Option, Result, sym, refl, ◌∙◌, subst, arith}
 use Rattle.std.proofs.lemmas.Bool.{cond_both}
 use Rattle.resistance.specs.Expressions.{printed, figure_of, Allows, margin}
 use Rattle.resistance.specs.declared.expression.Expression.{Expression}

@@ -1,5 +1,5 @@
 -- What the governing search keeps from turn to turn, and what its answer says of every mode.
-use Rattle.std.proofs.Common.{◌≡◌, ℕ, zero, suc, ◌+◌, ◌<◌, ◌≤◌, Bool, true, false, cond, ◌||◌, eqb, ltb, ◌⊎◌, Some, None, Option, sym, refl, ap, ◌∙◌, subst, inl, inr, ⊎_elim, add-one, arith}
+use Rattle.std.proofs.Common.{◌≡◌, ℕ, zero, suc, ◌+◌, ◌<◌, ◌≤◌, true, false, ◌||◌, eqb, ltb, ◌⊎◌, Some, None, Option, sym, refl, ap, ◌∙◌, subst, inl, inr, ⊎_elim, add-one, arith}
 use Rattle.std.proofs.lemmas.Bool.{cases_lt, cond-true, cond-false, cases_Bool, ltb-true, ltb-false, ne_eqb, eq-eqb, or_left, or_right, or_from}
 use Rattle.joint.specs.Govern.{better, lowest, Governs, Silent, Found as Found-of}
 use Rattle.joint.specs.declared.sheet.Governing.{Governing}

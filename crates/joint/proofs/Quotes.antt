@@ -1,7 +1,7 @@
 -- From a kind's meaning: what the governing figures of its joints are worth.
-use Rattle.std.proofs.Common.{◌≡◌, ℕ, ◌+◌, ◌<◌, ◌≤◌, Bool, true, false, ◌⊎◌, Some, None, sym, ◌∙◌, inl, inr, ⊎_elim, arith}
+use Rattle.std.proofs.Common.{◌≡◌, ℕ, true, false, ◌⊎◌, Some, None, inl, inr, ⊎_elim, arith}
 use Rattle.std.proofs.lemmas.Bool.{cases_Bool}
-use Rattle.joint.specs.Govern.{Governs, Silent, Found}
+use Rattle.joint.specs.Govern.{Governs, Found}
 use Rattle.joint.specs.Meaning.{Meaning}
 use Rattle.joint.specs.Sheets.{Quotable, Unbound, Quoted, sheet_of}
 use Rattle.joint.specs.declared.kind.Kind.{Ghosts}

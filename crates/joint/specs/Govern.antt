@@ -1,5 +1,5 @@
 -- The governing mode: the lowest printed figure of the modes that bind, and in a tie the lowest number.
-use Rattle.std.specs.Prelude.{◌≡◌, ℕ, zero, suc, ◌+◌, ◌<◌, ◌≤◌, Bool, cond, ◌||◌, ◌⊎◌, Some, None, Option, ◌==◌, nat_lt}
+use Rattle.std.specs.Prelude.{◌≡◌, ℕ, zero, suc, ◌+◌, ◌<◌, ◌≤◌, cond, ◌||◌, ◌⊎◌, Some, None, Option, ◌==◌, nat_lt}
 use Rattle.joint.specs.declared.sheet.Governing.{Governing}
 
 -- no mode governs

@@ -1,5 +1,5 @@
 -- The modes of a joint: lists of expressions, nothing where a mode does not bind. Shear modes count from 1, tying modes from 21.
-use Rattle.std.specs.Prelude.{◌≡◌, ℕ, ◌+◌, Bool, true, false, cond, List, [], ◌∷◌, Some, None, Option, ◌==◌, nat_lt}
+use Rattle.std.specs.Prelude.{◌≡◌, ℕ, ◌+◌, cond, List, [], ◌∷◌, Some, None, Option, ◌==◌, nat_lt}
 use Rattle.resistance.specs.Expressions.{printed, figure_of, Allows, Sound}
 use Rattle.resistance.specs.declared.expression.Expression.{Expression}
 

@@ -1,26 +1,24 @@
 -- What stands on a hanging place after any list of calls, and so the law.
-use Rattle.std.proofs.Common.{◌≡◌, ℕ, zero, suc, ◌+◌, ◌<◌, Bool, true, false, cond, eqb, ltb, List, [], ◌∷◌, length, get_or, set, replicate, Some, None, Ok, Err, Result, sym, refl, ap, ◌∙◌, subst, arith, get_or-set_same, lt-length-set}
-use Rattle.std.proofs.lemmas.Bool.{ltb-true, lt-ltb, cases_Bool}
-use Rattle.resistance.specs.Expressions.{margin}
+use Rattle.std.proofs.Common.{◌≡◌, ℕ, zero, suc, ◌<◌, Bool, true, false, cond, ltb, List, [], ◌∷◌, length, get_or, set, replicate, Ok, Err, Result, sym, refl, ap, ◌∙◌, subst, arith, get_or-set_same, lt-length-set}
+use Rattle.std.proofs.lemmas.Bool.{ltb-true, lt-ltb}
 use Rattle.joint.specs.Meaning.{Meaning}
-use Rattle.joint.specs.Sheets.{sheet_of, sheet_if, judged, Quoted}
+use Rattle.joint.specs.Sheets.{sheet_of, sheet_if, Quoted}
 use Rattle.joint.specs.declared.fault.JointFault.{JointFault}
 use Rattle.joint.specs.declared.kind.Kind.{Ghosts}
 use Rattle.joint.specs.declared.sheet.Sheet.{Sheet}
 use Rattle.joint.proofs.Quotes.{sheet_quoted}
-use Rattle.places.specs.Places.{hung, put, then, carried, due, own, turned, absent, state_of, sheet_told, hang_to, back_to, card_of, card_at, joint_in, sheet_in, figure_in, known, joint_at, sheet_at}
+use Rattle.places.specs.Places.{hung, put, then, carried, due, own, turned, absent, state_of, sheet_told, hang_to, back_to, card_of, card_at, joint_in, sheet_in, figure_in, joint_at, sheet_at}
 use Rattle.places.specs.declared.fault.RailFault.{RailFault}
-use Rattle.places.specs.declared.fault.RailFault.TheVariants.{NoPlace, NoMode}
+use Rattle.places.specs.declared.fault.RailFault.TheVariants.{NoPlace}
 use Rattle.places.specs.declared.place.Event.{Event}
 use Rattle.places.specs.declared.place.Event.TheVariants as event
 use Rattle.places.specs.declared.place.Place.{Place}
 use Rattle.places.specs.declared.place.Place.TheVariants as place
 use Rattle.places.specs.declared.place.State.{State}
-use Rattle.rail.specs.declared.call.Answer.{Answer}
-use Rattle.rail.specs.declared.call.Answer.TheVariants.{Holds, Shows, Prints, Refused}
+use Rattle.rail.specs.declared.call.Answer.TheVariants.{Holds, Shows, Prints}
 use Rattle.rail.specs.declared.call.Call.{Call}
 use Rattle.rail.specs.declared.call.Call.TheVariants.{Hang, Lift, HangBack, Scrap, AskState, AskJoint, AskSheet, AskFigure, AskClass}
-use Rattle.rail.specs.Laws.{Figured, Sheeted, Kept, Law, Question}
+use Rattle.rail.specs.Laws.{Figured, Sheeted, Law, Question}
 use Rattle.rail.specs.Laws.{state_asked, joint_asked, sheet_asked, figure_asked, class_asked}
 use Rattle.rail.specs.Runs.{played, run}
 use Rattle.rail.specs.Steps.{Mode}

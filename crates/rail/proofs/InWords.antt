@@ -1,11 +1,11 @@
 -- The table of places does what the table in words says.
-use Rattle.std.proofs.Common.{◌≡◌, ℕ, ◌+◌, ◌<◌, ◌≤◌, Bool, true, false, cond, ◌&&◌, ◌||◌, eqb, ltb, leb, ◌⊎◌, List, [], ◌∷◌, length, get_or, set, Ok, Err, Result, sym, refl, ap, ◌∙◌, inl, inr, ⊎_elim, arith, length-set, get_or-set_other, get_or-set_same, lt-length-set}
+use Rattle.std.proofs.Common.{◌≡◌, ℕ, ◌+◌, ◌<◌, ◌≤◌, Bool, true, false, cond, ◌&&◌, ◌||◌, eqb, ltb, leb, List, [], ◌∷◌, length, get_or, set, Ok, Err, Result, sym, refl, ap, ◌∙◌, inl, inr, ⊎_elim, arith, length-set, get_or-set_other, get_or-set_same, lt-length-set}
 use Rattle.std.proofs.lemmas.Bool.{ltb-true, ltb-false, eqb-true, eqb-false, leb-true, le-leb, lt-ltb, and_parts, and_from, or_left, or_right, or_cases, both_ways}
 use Rattle.joint.specs.Sheets.{sheet_of}
 use Rattle.joint.specs.declared.fault.JointFault.{JointFault}
 use Rattle.joint.specs.declared.kind.Kind.{Ghosts}
 use Rattle.joint.specs.declared.sheet.Sheet.{Sheet}
-use Rattle.places.specs.Places.{hung, put, done, then, carried, turned, absent, state_of, sheet_told, card_of, joint_in, sheet_in, figure_in, known}
+use Rattle.places.specs.Places.{hung, put, done, then, carried, turned, state_of, sheet_told, card_of, joint_in, sheet_in, figure_in}
 use Rattle.places.specs.declared.fault.RailFault.{RailFault}
 use Rattle.places.specs.declared.fault.RailFault.TheVariants.{BadSlip, NoPlace, WrongState, NoMode}
 use Rattle.places.specs.declared.place.Event.TheVariants as event

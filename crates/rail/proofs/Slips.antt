@@ -11,7 +11,6 @@ use Rattle.places.specs.declared.place.Event.TheVariants as event
 use Rattle.places.specs.declared.place.Place.{Place}
 use Rattle.places.specs.declared.place.Place.TheVariants as place
 use Rattle.places.specs.declared.place.State.TheVariants as state
-use Rattle.rail.specs.declared.call.Answer.{Answer}
 use Rattle.rail.specs.declared.call.Call.{Call}
 use Rattle.rail.specs.declared.call.Call.TheVariants.{Hang, Lift, HangBack, Scrap, AskState, AskJoint, AskSheet, AskFigure, AskClass}
 use Rattle.rail.specs.Runs.{played, told, accepted, taken, lift_of, back_of, scrap_of}

@@ -7,7 +7,6 @@ use Rattle.joint.specs.declared.sheet.Sheet.{Sheet}
 use Rattle.places.specs.Places.{state_count}
 use Rattle.places.specs.declared.fault.RailFault.TheVariants.{NoMode}
 use Rattle.places.specs.declared.place.State.TheVariants as state
-use Rattle.rail.specs.declared.call.Answer.{Answer}
 use Rattle.rail.specs.declared.call.Answer.TheVariants.{Holds, Shows, Prints, Refused}
 use Rattle.rail.specs.declared.call.Call.{Call}
 use Rattle.rail.specs.declared.call.Call.TheVariants.{Hang, HangBack, AskState, AskJoint, AskSheet, AskFigure, AskClass}

@@ -1,9 +1,8 @@
 -- The printed figure is at or below the exact resistance, and a few newtons more are not: by the shape of the expression.
-use Rattle.std.proofs.Common.{◌≡◌, ℕ, ◌+◌, ◌-◌, ◌*◌, ◌/◌, ◌<◌, ◌≤◌, ◌⊎◌, inl, inr, le_of_lt, mul-le-mul_right, mul-le-mul, mul-le-mul_left, mul-lt-mul_of_pos_right, mul-pos, lt_of_not-le, div-mul-le_self, arith}
+use Rattle.std.proofs.Common.{ℕ, ◌+◌, ◌-◌, ◌*◌, ◌/◌, ◌<◌, ◌≤◌, inl, inr, le_of_lt, mul-le-mul_right, mul-lt-mul_of_pos_right, mul-pos, lt_of_not-le, div-mul-le_self, arith}
 use native.Mathlib.Nat.{lt-div-mul-add}
 use Rattle.resistance.specs.Exact.{sq, AtOrBelow, AtOrBelowRoot, AtOrBelowSum}
-use Rattle.resistance.proofs.Squares.{sq_mono, sq_mono_lt, le_of_sq, lt_of_sq}
-use Rattle.std.proofs.lemmas.Bool.{cases_lt}
+use Rattle.resistance.proofs.Squares.{sq_mono, sq_mono_lt, lt_of_sq}
 
 -- A: [N/D]
 pub whole_low : (N D : ℕ) → AtOrBelow (N / D) N D

@@ -1,5 +1,5 @@
 -- The whole number above a quotient, and the limits of a bolt group.
-use Rattle.std.proofs.Common.{◌≡◌, ℕ, zero, suc, ◌+◌, ◌*◌, ◌/◌, ◌%◌, ◌<◌, ◌≤◌, min, true, ◌&&◌, leb, sym, inl, inr, mul-le-mul_right, mod-lt, mul-le-mul, lt_of_mul-lt-mul_right, mul-le-mul_left, div-add-mod', le_of_mul-le-mul_right, arith}
+use Rattle.std.proofs.Common.{◌≡◌, ℕ, ◌+◌, ◌*◌, ◌/◌, ◌%◌, ◌<◌, ◌≤◌, true, leb, sym, inl, inr, mul-le-mul_right, mod-lt, mul-le-mul, lt_of_mul-lt-mul_right, mul-le-mul_left, div-add-mod', le_of_mul-le-mul_right, arith}
 use Rattle.std.proofs.lemmas.Bool.{cases_lt, and_parts, and_from, leb-true, le-leb}
 use Rattle.resistance.specs.Roots.{Smallest}
 use Rattle.resistance.specs.Groups.{up, SmallestOver, within}

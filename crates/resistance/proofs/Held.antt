@@ -1,5 +1,5 @@
 -- What 64 bits hold of a sum, and a figure of a bolt group.
-use Rattle.std.proofs.Common.{◌≡◌, ℕ, ◌+◌, ◌/◌, ◌^◌, ◌<◌, ◌≤◌, ltb, Some, None, Option, sym, refl, ap, ◌∙◌, subst, inl, inr, div-le_self, arith}
+use Rattle.std.proofs.Common.{◌≡◌, ℕ, ◌+◌, ◌^◌, ◌<◌, ◌≤◌, Some, None, Option, sym, ap, ◌∙◌, subst, inl, inr, div-le_self, arith}
 use Rattle.std.specs.Option.{SomeIff}
 use Rattle.std.proofs.lemmas.Bool.{cases_lt, cases_Bool, lt-ltb, le-ltb, cond-true, cond-false}
 use Rattle.resistance.specs.Expressions.{held, figure_of, printed, Sound, Close, CloseGroup}

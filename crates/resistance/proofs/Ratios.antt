@@ -1,5 +1,5 @@
 -- The smaller of two fractions, and products.
-use Rattle.std.proofs.Common.{◌≡◌, ℕ, ◌*◌, ◌<◌, ◌≤◌, cond, ◌⊎◌, sym, subst, inl, inr, le_of_lt, mul-le-mul, mul-pos, arith}
+use Rattle.std.proofs.Common.{◌≡◌, ℕ, ◌<◌, ◌≤◌, ◌⊎◌, sym, subst, inl, inr, le_of_lt, mul-le-mul, mul-pos, arith}
 use Rattle.std.proofs.lemmas.Bool.{leb-true, leb-false, cases_Bool, cond-true, cond-false}
 use Rattle.resistance.specs.Fractions.{◌⊗◌, ◌≼◌, at_most, smaller}
 use Rattle.resistance.specs.declared.ratio.Ratio.{Ratio}

@@ -1,6 +1,6 @@
 -- Of every expression: 0 is at or below the exact resistance, and with a number every smaller one;
 -- of every sound one: the printed figure is, and that figure plus the margin is not.
-use Rattle.std.proofs.Common.{◌≡◌, ℕ, zero, suc, ◌+◌, ◌-◌, ◌*◌, ◌/◌, ◌^◌, ◌<◌, ◌≤◌, ◌⊎◌, subst, inl, inr, le_of_lt, mul-le-mul_right, mul-le-mul_left, mul-pos, div-mul-le_self, arith}
+use Rattle.std.proofs.Common.{◌≡◌, ℕ, zero, suc, ◌+◌, ◌-◌, ◌*◌, ◌/◌, ◌<◌, ◌≤◌, subst, inl, inr, le_of_lt, mul-le-mul_right, mul-le-mul_left, mul-pos, div-mul-le_self, arith}
 use native.Mathlib.Nat.{lt-div-mul-add}
 use Rattle.resistance.specs.Exact.{sq}
 use Rattle.resistance.specs.Fractions.{dropped}

@@ -1,12 +1,11 @@
 -- R and rootUp are what their words say.
-use Rattle.std.proofs.Common.{◌≡◌, ℕ, zero, suc, ◌+◌, ◌-◌, ◌*◌, ◌/◌, ◌%◌, ◌^◌, ◌<◌, ◌≤◌, min, Bool, true, false, cond, leb, ◌⊎◌, sym, refl, ap, ◌∙◌, subst, inl, inr, mul-le-mul_right, mod-lt, le_antisymm, lt_of_mul-lt-mul_right, mul-le-mul_left, mul-pos, pow-suc, lt_of_not-le, div-add-mod', zero-add, le_of_mul-le-mul_right, arith, pow_pos}
-use native.Mathlib.Nat.{pow-zero, le_of_mul-le-mul_left}
+use Rattle.std.proofs.Common.{◌≡◌, ℕ, zero, suc, ◌+◌, ◌*◌, ◌^◌, ◌<◌, ◌≤◌, Bool, true, false, cond, leb, refl, ◌∙◌, le_antisymm, mul-le-mul_left, arith, pow_pos}
 use lib.Ieee.{size}
 use lib.Ieee.Digits.{size-lt}
-use Rattle.std.proofs.lemmas.Bool.{cases_lt, leb-true, leb-false, le-leb, lt-leb, cases_Bool, cond-true, cond-false}
+use Rattle.std.proofs.lemmas.Bool.{leb-true, leb-false, le-leb, lt-leb}
 use Rattle.resistance.specs.Exact.{sq}
 use Rattle.resistance.specs.Roots.{largest, R, root_up, Largest, Smallest}
-use Rattle.resistance.proofs.Squares.{sq_mono, sq_mono_lt, le_of_sq, lt_of_sq}
+use Rattle.resistance.proofs.Squares.{sq_mono, sq_mono_lt, lt_of_sq}
 
 -- the found number passes the test, and the next one fails it
 largest_is : (k found : ℕ) (test : ℕ → Bool) → test found ≡ true → test (found + 2 ^ k) ≡ false →

@@ -1,6 +1,5 @@
 -- Squares and products of whole numbers: the few steps that linear arithmetic does not take.
-use Rattle.std.proofs.Common.{◌≡◌, ℕ, ◌+◌, ◌*◌, ◌<◌, ◌≤◌, ◌⊎◌, inl, inr, mul-le-mul, lt_of_not-le, arith}
-use native.Mathlib.Nat.{le_of_mul-le-mul_left}
+use Rattle.std.proofs.Common.{ℕ, ◌<◌, ◌≤◌, inl, inr, mul-le-mul, arith}
 use Rattle.resistance.specs.Exact.{sq}
 use Rattle.std.proofs.lemmas.Bool.{cases_lt}
 

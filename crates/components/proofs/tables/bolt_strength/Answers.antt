@@ -1,5 +1,5 @@
 -- `bolt_strength` answers its table.
-use Rattle.std.proofs.Common.{◌≡◌, ℕ, ◌≤◌, sym, refl, subst}
+use Rattle.std.proofs.Common.{ℕ, ◌≤◌, sym, refl, subst}
 use Rattle.components.specs.Tabled.{fub, bolt_strengths}
 use Rattle.components.proofs.Listed.{row_most}
 use Rattle.components.proofs.tables.bolt_strength.Goals as goal

@@ -1,5 +1,5 @@
 -- `hole` answers its table.
-use Rattle.std.proofs.Common.{◌≡◌, ℕ, ◌≤◌, sym, refl, subst}
+use Rattle.std.proofs.Common.{ℕ, ◌≤◌, sym, refl, subst}
 use Rattle.components.specs.Tabled.{hole_of, holes}
 use Rattle.components.proofs.Listed.{row_most}
 use Rattle.components.proofs.tables.hole.Goals as goal

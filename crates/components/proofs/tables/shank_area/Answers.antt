@@ -1,5 +1,5 @@
 -- `shank_area` answers its table.
-use Rattle.std.proofs.Common.{◌≡◌, ℕ, ◌≤◌, sym, refl, subst}
+use Rattle.std.proofs.Common.{ℕ, ◌≤◌, sym, refl, subst}
 use Rattle.components.specs.Tabled.{shank_of, shank_areas}
 use Rattle.components.proofs.Listed.{row_most}
 use Rattle.components.proofs.tables.shank_area.Goals as goal

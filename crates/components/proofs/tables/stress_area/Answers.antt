@@ -1,5 +1,5 @@
 -- `stress_area` answers its table.
-use Rattle.std.proofs.Common.{◌≡◌, ℕ, ◌≤◌, sym, refl, subst}
+use Rattle.std.proofs.Common.{ℕ, ◌≤◌, sym, refl, subst}
 use Rattle.components.specs.Tabled.{stress_of, stress_areas}
 use Rattle.components.proofs.Listed.{row_most}
 use Rattle.components.proofs.tables.stress_area.Goals as goal

@@ -1,5 +1,5 @@
 -- `ultimate_strength` answers its table.
-use Rattle.std.proofs.Common.{◌≡◌, ℕ, ◌≤◌, sym, refl, subst}
+use Rattle.std.proofs.Common.{ℕ, ◌≤◌, sym, refl, subst}
 use Rattle.components.specs.Tabled.{fu, strengths}
 use Rattle.components.proofs.Listed.{row_most}
 use Rattle.components.proofs.tables.ultimate_strength.Goals as goal

@@ -1,5 +1,5 @@
 -- `weld_correlation` answers its table.
-use Rattle.std.proofs.Common.{◌≡◌, ℕ, ◌≤◌, sym, refl, subst}
+use Rattle.std.proofs.Common.{ℕ, ◌≤◌, sym, refl, subst}
 use Rattle.components.specs.Tabled.{weld_factor, weld_factors}
 use Rattle.components.proofs.Listed.{row_most}
 use Rattle.components.proofs.tables.weld_correlation.Goals as goal

@@ -1,5 +1,5 @@
-use Rattle.std.proofs.Common.{◌≡◌, ◌⊎◌, sym, ap, ◌∙◌, subst, arith}
-use Rattle.joint.specs.Govern.{lowest, Governs, Silent}
+use Rattle.std.proofs.Common.{◌≡◌, ap, ◌∙◌, arith}
+use Rattle.joint.specs.Govern.{lowest}
 use Rattle.joint.proofs.Lowest.{lowest_more, found_as}
 use Rattle.joint.proofs.govern.lowest_of.Goals as goal
 

@@ -1,5 +1,5 @@
 -- `total`: every product fits, and the answer is the bearing total.
-use Rattle.std.proofs.Common.{◌≡◌, ℕ, ◌*◌, ◌≤◌, Some, None, sym, ap, ◌∙◌, subst, mul-le-mul, arith}
+use Rattle.std.proofs.Common.{◌≤◌, Some, None, sym, ap, ◌∙◌, subst, mul-le-mul, arith}
 use Rattle.std.proofs.lemmas.Bool.{cond-true}
 use Rattle.resistance.specs.Fractions.{smaller}
 use Rattle.resistance.specs.declared.ratio.Ratio.{Ratio}

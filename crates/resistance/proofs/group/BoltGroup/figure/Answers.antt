@@ -1,5 +1,5 @@
 -- `figure` of a bolt group: every product fits 128 bits, the root is not 0, and the figure fits 64.
-use Rattle.std.proofs.Common.{◌*◌, ◌/◌, ◌≤◌, mul-le-mul, mul-le-mul_left, div-mul-le_self, arith, rules}
+use Rattle.std.proofs.Common.{◌*◌, ◌/◌, mul-le-mul, mul-le-mul_left, div-mul-le_self, arith, rules}
 use Rattle.resistance.proofs.GroupBounds.{group_most}
 use Rattle.resistance.proofs.GroupLimits.{limits, w_most, leg_most, root_least}
 use Rattle.resistance.proofs.Held.{group_given}
