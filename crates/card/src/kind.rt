@@ -36,8 +36,8 @@ pub trait CardKind {
 
 // The joint that the card at the front of `text` describes, and the bytes of that card.
 pub fn read_joint<J: CardKind>(text: &[u8]) -> Result<(J, usize), TextFault>
-    ensures reads { ReadsJoint initial keys fields text.now result }
-    ensures unique { UniqueJoint initial keys fields text.now result }
+    ensures reads { ReadsJoint J.initial J.keys J.fields text.now result }
+    ensures unique { UniqueJoint J.initial J.keys J.fields text.now result }
 {
     let start = lines::read_kind(J::letter(), text)?;
     let (values, taken) = lines::read_lines(J::key_table(), &text[start..])?;

@@ -83,17 +83,17 @@ returns-in_default c =
     let ne = c.in_default.not-NotJoint in
     record { reads = header_refused _ _ ne h.reads; unique = header_unique _ _ ne h.reads h.unique }
 
-pub returns-in_ok-joint : goal.returns-in_ok-joint
-returns-in_ok-joint c =
+pub returns-in_ok-joint-in-NotJoint : goal.returns-in_ok-joint-in-NotJoint
+returns-in_ok-joint-in-NotJoint c =
     let h = c.in-Err.ensures in
-    let k = c.in_ok-joint.ensures in
-    let both = fin_arm _ _ c.in-NotJoint.is h.reads h.unique (Ok (c.in_ok-joint.joint, c.in_ok-joint.taken)) k.reads k.unique in
+    let k = c.in_ok-joint-in-NotJoint.ensures in
+    let both = fin_arm _ _ c.in-NotJoint.is h.reads h.unique (Ok (c.in_ok-joint-in-NotJoint.joint, c.in_ok-joint-in-NotJoint.taken)) k.reads k.unique in
     record { reads = both.0; unique = both.1 }
 
-pub returns-in_err-joint : goal.returns-in_err-joint
-returns-in_err-joint c =
+pub returns-in_err-joint-in-NotJoint : goal.returns-in_err-joint-in-NotJoint
+returns-in_err-joint-in-NotJoint c =
     let p = err_from_is_err_and c.from_residual.result c.from_residual.ensures.1 in
     let h = c.in-Err.ensures in
-    let k = c.in_err-joint.ensures in
-    let both = fin_arm _ _ c.in-NotJoint.is h.reads h.unique (Err c.in_err-joint.field-0.0) k.reads k.unique in
+    let k = c.in_err-joint-in-NotJoint.ensures in
+    let both = fin_arm _ _ c.in-NotJoint.is h.reads h.unique (Err c.in_err-joint-in-NotJoint.field-0.0) k.reads k.unique in
     rw (p.1, p.2) (record { reads = both.0; unique = both.1 })

@@ -7,7 +7,7 @@ use Rattle.std.proofs.lemmas.Bool.Decides.{Decides-eqb}
 
 pub returns-in_err-rest : goal.returns-in_err-rest
 returns-in_err-rest c =
-    rw c.from_residual.ensures (λ ds e. strip_prefix_is c.args.line.now c.args.key.now None c.in_err-rest.ensures.cases (61 ∷ ds) e)
+    rw c.from_residual.ensures (λ ds e. strip_prefix_is Decides-eqb c.args.line.now c.args.key.now None c.in_err-rest.ensures.cases (61 ∷ ds) e)
 
 pub returns : goal.returns
 returns c =
