@@ -1,6 +1,5 @@
 -- The reference cards of both kinds, and the modes whose figures are quoted of them.
 use Rattle.std.specs.Prelude.{List, [], ◌∷◌}
-use Rattle.components.specs.declared.bolts.Bolts.{Bolts}
 use Rattle.fin.specs.FinModes as F
 use Rattle.fin.specs.declared.joint.FinJoint.{FinJoint}
 use Rattle.header.specs.HeaderModes as H

@@ -1,5 +1,5 @@
 -- The numbers of an admitted fin plate in bearing lie within the limits of a bearing total.
-use Rattle.std.proofs.Common.{ℕ, ◌*◌, ◌≤◌, arith}
+use Rattle.std.proofs.Common.{ℕ, ◌≤◌, arith}
 use Rattle.resistance.specs.declared.ratio.Ratio.{Ratio}
 use Rattle.components.specs.Bears.{k, k', u, w}
 use Rattle.components.specs.Tabled.{hole_of}

@@ -1,18 +1,17 @@
 -- A fin plate keeps the meaning of a kind.
-use Rattle.std.specs.Prelude.{◌≡◌, ℕ, ◌+◌, ◌-◌, ◌*◌, ◌/◌, ◌^◌, ◌<◌, ◌≤◌, Bool, true, cond, not, ◌&&◌, ◌||◌, Some, None, Option, ◌==◌, ◌≢◌, refl}
+use Rattle.std.specs.Prelude.{◌≡◌, ℕ, ◌+◌, ◌-◌, ◌*◌, ◌<◌, ◌≤◌, true, not, ◌&&◌, ◌||◌, Some, None, ◌==◌, ◌≢◌, refl}
 use Rattle.std.proofs.Math.Nat.{mul-le-mul, mul-pos}
 use native.Mathlib.Omega.{arith}
 use Rattle.std.proofs.lemmas.Bool.{cond_both}
 use Rattle.std.proofs.lemmas.Bool.Decides.{nat_tests}
-use Rattle.resistance.specs.Fractions.{◌÷◌, ◌≼◌, smaller, dropped}
+use Rattle.resistance.specs.Fractions.{◌÷◌, ◌≼◌, dropped}
 use Rattle.resistance.specs.declared.ratio.Ratio.{Ratio}
-use Rattle.resistance.proofs.GroupLimits.{Limits}
 use Rattle.resistance.proofs.Held.{sum_held, GroupLimits, group_sound, group_held}
 use Rattle.resistance.proofs.Ratios.{Proper, smaller_proper, smaller_both}
 use Rattle.components.specs.Bears.{k, k', u, w}
 use Rattle.components.specs.Tabled.{fu, fub, hole_of, area_of, shear_of}
 use Rattle.components.proofs.BearParts.{bear_proper}
-use Rattle.components.proofs.GroupRanges.{Parts, Ranges, group_ranges}
+use Rattle.components.proofs.GroupRanges.{Ranges, group_ranges}
 use Rattle.components.proofs.Listed.{area_range, shear_range}
 use Rattle.components.proofs.Plates.{depth_most, web_torn_most}
 use Rattle.joint.specs.Checked.{within}
@@ -22,7 +21,7 @@ use Rattle.joint.proofs.Admits.{kept_is}
 use Rattle.joint.proofs.Expressed.{Agree, some_cond, every_mode, means}
 use Rattle.fin.specs.FieldChecks.{first_fault}
 use Rattle.fin.specs.FinAdmission.{make_fin, fin_admission}
-use Rattle.fin.specs.FinModes.{shear_modes, tying_modes, shear_binds, tying_binds, shallow, torn_of, web_torn_of, depth_of, length_of, plate_bending, bolt_total, plate_down, plate_across, web_down, web_across, group_by, on_plate, on_web, plate_k, plate_α, plate_k_across, plate_α_across, web_k, web_α, web_k_across, web_α_across, fin_mode, fin_binds}
+use Rattle.fin.specs.FinModes.{shear_modes, tying_modes, shear_binds, tying_binds, shallow, torn_of, web_torn_of, length_of, plate_bending, bolt_total, plate_down, plate_across, web_down, web_across, group_by, on_plate, on_web, plate_k, plate_α, plate_k_across, plate_α_across, web_k, web_α, web_k_across, web_α_across, fin_mode, fin_binds}
 use Rattle.fin.specs.declared.fin.Fin.{Fin}
 use Rattle.fin.specs.declared.joint.FinJoint.{FinJoint}
 use Rattle.fin.specs.Ranges.{Admitted, ranges}

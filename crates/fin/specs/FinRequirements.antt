@@ -1,5 +1,5 @@
 -- The requirements of a fin plate: what must hold for each to be met.
-use Rattle.std.specs.Prelude.{ℕ, ◌+◌, ◌*◌, ◌^◌, min, Bool, ◌||◌, Some, None, Option, nat_le, nat_lt}
+use Rattle.std.specs.Prelude.{ℕ, ◌+◌, ◌*◌, min, Bool, ◌||◌, Some, None, Option, nat_le, nat_lt}
 use Rattle.resistance.specs.Exact.{sq}
 use Rattle.resistance.specs.Expressions.{printed}
 use Rattle.resistance.specs.Fractions.{at_most}

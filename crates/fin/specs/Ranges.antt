@@ -1,5 +1,5 @@
 -- What an admitted fin plate keeps, as plain facts, from its checks.
-use Rattle.std.specs.Prelude.{◌≡◌, ℕ, ◌*◌, ◌<◌, ◌≤◌, true}
+use Rattle.std.specs.Prelude.{◌≡◌, ◌*◌, ◌<◌, ◌≤◌, true}
 use Rattle.std.proofs.lemmas.Bool.{ltb-true, leb-true}
 use Rattle.components.specs.Tabled.{fu, fub, hole_of}
 use Rattle.components.proofs.Listed.{Range, steel_range, class_range, bolt_range}

@@ -1,8 +1,7 @@
 -- The numbers of an admitted header plate in bearing lie within the limits of a bearing total.
-use Rattle.std.proofs.Common.{ℕ, ◌*◌, ◌≤◌, true, false, cond, eqb, arith}
+use Rattle.std.proofs.Common.{ℕ, eqb, arith}
 use Rattle.std.proofs.lemmas.Bool.{cond_both}
 use Rattle.resistance.specs.Fractions.{smaller}
-use Rattle.resistance.specs.declared.ratio.Ratio.{Ratio}
 use Rattle.components.specs.Bears.{k, u, w, most}
 use Rattle.components.specs.Tabled.{hole_of}
 use Rattle.components.proofs.BearParts.{Limits, Small, k_small, u_small, w_small, most_small, smaller_small}

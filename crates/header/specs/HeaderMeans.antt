@@ -1,11 +1,9 @@
 -- A header plate keeps the meaning of a kind.
-use Rattle.std.specs.Prelude.{◌≡◌, ℕ, ◌-◌, ◌*◌, ◌^◌, ◌<◌, ◌≤◌, Bool, true, cond, [], Some, None, Option, ◌==◌, ◌≢◌, refl}
+use Rattle.std.specs.Prelude.{◌≡◌, ℕ, ◌-◌, ◌*◌, ◌≤◌, true, [], Some, None, ◌==◌, ◌≢◌, refl}
 use Rattle.std.proofs.Math.Nat.{mul-le-mul}
-use Rattle.std.proofs.Common.{mul-pos}
 use native.Mathlib.Omega.{arith}
 use Rattle.std.proofs.lemmas.Bool.{cond_both}
 use Rattle.resistance.specs.Fractions.{◌÷◌, smaller}
-use Rattle.resistance.specs.declared.expression.Expression.{Expression}
 use Rattle.resistance.proofs.Held.{sum_held}
 use Rattle.resistance.proofs.Ratios.{Proper, smaller_proper}
 use Rattle.components.specs.Bears.{k, u, w, most}
@@ -19,7 +17,7 @@ use Rattle.joint.proofs.Admits.{kept_is}
 use Rattle.joint.proofs.Expressed.{Agree, some_cond, every_mode, means}
 use Rattle.header.specs.FieldChecks.{first_fault}
 use Rattle.header.specs.HeaderAdmission.{make_header, header_admission}
-use Rattle.header.specs.HeaderModes.{shear_modes, shear_binds, shallow, sides_of, torn_of, depth_of, plate_bending, on_plate, on_support, support_edge, header_mode, header_binds}
+use Rattle.header.specs.HeaderModes.{shear_modes, shear_binds, shallow, sides_of, torn_of, plate_bending, on_plate, on_support, support_edge, header_mode, header_binds}
 use Rattle.header.specs.declared.header.Header.{Header}
 use Rattle.header.specs.declared.joint.HeaderJoint.{HeaderJoint}
 use Rattle.header.specs.Ranges.{Admitted, ranges}

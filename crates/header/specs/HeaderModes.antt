@@ -1,5 +1,5 @@
 -- The eight shear modes of a header plate, as expressions. It has no tying modes.
-use Rattle.std.specs.Prelude.{ℕ, ◌+◌, ◌-◌, ◌*◌, Bool, true, false, cond, List, [], ◌∷◌, Some, None, Option, ◌==◌, nat_lt}
+use Rattle.std.specs.Prelude.{ℕ, ◌-◌, ◌*◌, Bool, true, false, cond, List, [], ◌∷◌, Some, None, Option, ◌==◌, nat_lt}
 use Rattle.resistance.specs.Fractions.{◌÷◌, smaller}
 use Rattle.resistance.specs.declared.expression.Expression.{Expression}
 use Rattle.resistance.specs.declared.expression.Expression.TheVariants.{Whole, Root, Sum}

@@ -1,5 +1,5 @@
 -- The requirements of a header plate: what must hold for each to be met.
-use Rattle.std.specs.Prelude.{ℕ, ◌*◌, Bool, true, not, ◌&&◌, ◌||◌, nat_le, nat_lt}
+use Rattle.std.specs.Prelude.{ℕ, ◌*◌, Bool, true, ◌&&◌, ◌||◌, nat_le, nat_lt}
 use Rattle.components.specs.Tabled.{fub}
 use Rattle.components.specs.Welds.{full_strength}
 use Rattle.joint.specs.Unmet.{unmet_of}

@@ -1,10 +1,9 @@
 -- What an admitted header plate keeps, as plain facts, from its checks.
-use Rattle.std.specs.Prelude.{◌≡◌, ℕ, ◌*◌, ◌<◌, ◌≤◌, Bool, true, ◌||◌, eqb, leb, ◌⊎◌}
-use Rattle.std.proofs.Common.{inl, inr, ⊎_elim}
-use Rattle.std.proofs.lemmas.Bool.{ltb-true, leb-true, eqb-true, or_cases}
+use Rattle.std.specs.Prelude.{◌≡◌, ◌*◌, ◌≤◌, true}
+use Rattle.std.proofs.lemmas.Bool.{ltb-true, leb-true}
 use Rattle.components.specs.Tabled.{fu, fub, hole_of}
 use Rattle.components.proofs.Listed.{Range, steel_range, class_range, bolt_range}
-use Rattle.joint.specs.Checked.{none_of, spaced}
+use Rattle.joint.specs.Checked.{none_of}
 use Rattle.joint.proofs.Turns.{passes, low, high}
 use Rattle.header.specs.FieldChecks.{checks, first_fault}
 use Rattle.header.specs.declared.joint.HeaderJoint.{HeaderJoint}

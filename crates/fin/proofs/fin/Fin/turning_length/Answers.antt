@@ -1,5 +1,5 @@
 -- `turning_length`: at most eleven pitches of 200 mm.
-use Rattle.std.proofs.Common.{◌+◌, ◌*◌, ◌≤◌, mul-le-mul, arith, rules}
+use Rattle.std.proofs.Common.{◌+◌, ◌≤◌, mul-le-mul, arith, rules}
 use Rattle.fin.specs.Ranges.{ranges}
 use Rattle.fin.proofs.fin.Fin.turning_length.Goals as goal
 

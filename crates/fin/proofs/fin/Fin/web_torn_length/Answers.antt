@@ -1,5 +1,5 @@
 -- `web_torn_length`: nothing wraps, and the holes leave something.
-use Rattle.std.proofs.Common.{◌+◌, ◌-◌, ◌*◌, ◌≤◌, mul-le-mul, arith, rules}
+use Rattle.std.proofs.Common.{◌-◌, ◌*◌, ◌≤◌, mul-le-mul, arith, rules}
 use Rattle.components.proofs.Plates.{web_torn_fit, web_torn_most}
 use Rattle.fin.specs.Ranges.{ranges}
 use Rattle.fin.proofs.fin.Fin.web_torn_length.Goals as goal

@@ -1,7 +1,6 @@
 -- `expression` answers the list of modes, in which every number has its place.
-use Rattle.std.proofs.Common.{◌≡◌, ℕ, Bool, true, false, cond, Some, None, Option, sym, ap, ◌∙◌, arith}
+use Rattle.std.proofs.Common.{Some, None, sym, ap, ◌∙◌, arith}
 use Rattle.std.proofs.lemmas.Bool.{cond-true, cond-false}
-use Rattle.resistance.specs.declared.expression.Expression.{Expression}
 use Rattle.joint.proofs.Numbered.{no_mode}
 use Rattle.header.specs.HeaderModes.{shear_modes, shallow, plate_bending, header_mode}
 use Rattle.header.proofs.header.Header.expression.Goals as goal

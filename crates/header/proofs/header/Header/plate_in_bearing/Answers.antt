@@ -1,5 +1,5 @@
 -- `plate_in_bearing`: the numbers of a header plate are workable, so that there always is a total.
-use Rattle.std.proofs.Common.{◌≡◌, ℕ, sym, ap, ◌∙◌, ap₂, arith}
+use Rattle.std.proofs.Common.{◌≡◌, ℕ, ap, ◌∙◌, ap₂, arith}
 use Rattle.resistance.specs.Fractions.{smaller}
 use Rattle.components.specs.Bears.{k, u, w}
 use Rattle.components.proofs.BearParts.{total_known}
