@@ -1,5 +1,5 @@
 -- The cards passed, one after another.
-use Rattle.std.proofs.Common.{◌≡◌, ℕ, ◌+◌, ◌-◌, ◌<◌, ◌≤◌, List, [], ◌∷◌, ◌++◌, length, take, drop, sym, refl, ap, ◌∙◌, subst, append_assoc, append-nil, arith}
+use Rattle.std.proofs.Common.{◌≡◌, ℕ, ◌-◌, ◌<◌, ◌≤◌, List, [], ◌∷◌, ◌++◌, length, take, drop, sym, refl, ap, ◌∙◌, subst, append_assoc, append-nil, arith}
 use Rattle.std.proofs.lemmas.List.{length-append, take_rest, length-take-le}
 use Rattle.card.specs.Cards.{card_text, TookCard, RefusesCard}
 use Rattle.card.specs.Kinds.{kind_line}
@@ -9,7 +9,7 @@ use Rattle.card.specs.declared.fault.TextFault.{TextFault}
 use Rattle.card.specs.Fins.{fin_keys, fin_fields}
 use Rattle.card.specs.declared.card.Card.{Card}
 use Rattle.card.specs.declared.card.Card.TheVariants.{Header, Fin}
-use Rattle.account.specs.Accounts.{entries_text, Through, Ends, Account}
+use Rattle.account.specs.Accounts.{entries_text, Through, Account}
 use Rattle.account.specs.Judged.{entry_of, entry_text}
 use Rattle.account.specs.declared.entry.Entry.{Entry}
 use Rattle.account.specs.declared.entry.Entry.TheVariants.{Refused}

@@ -1,5 +1,5 @@
 -- What the account says of one card.
-use Rattle.std.specs.Prelude.{ℕ, List, [], ◌∷◌, ◌++◌, Ok, Err, codes, Result}
+use Rattle.std.specs.Prelude.{ℕ, List, ◌++◌, Ok, Err, codes, Result}
 use Rattle.card.specs.Kinds.{kind_line}
 use Rattle.card.specs.Text.{line_of}
 use Rattle.header.specs.HeaderKinds.{header_kind}

@@ -1,5 +1,5 @@
 -- `account`: the loop passes card after card, and ends with the text or its first fault.
-use Rattle.std.proofs.Common.{ℕ, List, ◌++◌, length, drop, string_bytes, sym, ap, ◌∙◌, subst, arith, length-drop}
+use Rattle.std.proofs.Common.{◌++◌, length, string_bytes, sym, ap, ◌∙◌, subst, arith, length-drop}
 use Rattle.std.proofs.lemmas.List.{take_rest, nil_from_length}
 use Rattle.std.proofs.lemmas.Bool.{eqb-true, eqb-false}
 use Rattle.account.specs.Judged.{entry_text}
@@ -14,7 +14,7 @@ loop-rest-init c = subst (Sofar c.args.text.now c.args.text.now) (sym c.new-out.
 pub loop-rest-preserved : goal.loop-rest-preserved
 loop-rest-preserved c =
     card_passed c.args.text.now c.loop-rest.rest.now (string_bytes c.loop-rest.out) (string_bytes c.put.new.out) c.in-Ok.card c.in-Ok.taken c.judge.result
-    c.loop-rest.invariant c.in-Ok.ensures.reads c.judge.ensures c.in_ok-put.ensures
+    c.loop-rest.invariant c.in-Ok.ensures.reads c.judge.ensures c.in_ok-put-in-Ok.ensures
 
 pub loop-rest-smaller : goal.loop-rest-smaller
 loop-rest-smaller c =
@@ -33,4 +33,4 @@ pub returns-in-Err : goal.returns-in-Err
 returns-in-Err c =
     fault_ends c.args.text.now c.loop-rest.rest.now (string_bytes c.loop-rest.out) (string_bytes c.put-in-Err.new.out) c.in-Err.fault
     c.loop-rest.invariant (let ne = eqb-false (length c.loop-rest.rest.now) 0 (sym c.loop-rest-test.ensures) in omega arith) c.in-Err.ensures.reads
-    (c.in_ok-put-2.ensures ∙ ap (λ (f : Fault). string_bytes c.loop-rest.out ++ entry_text (Refused f)) c.from.ensures)
+    (c.in_ok-put-in-Err.ensures ∙ ap (λ (f : Fault). string_bytes c.loop-rest.out ++ entry_text (Refused f)) c.from.ensures)
