@@ -78,7 +78,7 @@ fn read_verb(text: &[u8]) -> Result<(Verb, u32, usize), TextFault>
 // A card behind the line of its order.
 fn read_behind<R: CardKind>(text: &[u8], start: usize) -> Result<(R, usize), TextFault>
     requires { start ≤ length text.now }
-    ensures { IfOk result (λ p. CardBehind initial keys fields text.now start p.0 p.1) }
+    ensures { IfOk result (λ p. CardBehind R.initial R.keys R.fields text.now start p.0 p.1) }
 {
     let (card, taken) = read_joint::<R>(&text[start..])?;
     Ok((card, start + taken))
@@ -86,7 +86,7 @@ fn read_behind<R: CardKind>(text: &[u8], start: usize) -> Result<(R, usize), Tex
 
 // The order at the front of a text, and the bytes that it takes.
 pub fn read_order<R: CardKind>(text: &[u8]) -> Result<(Order<R>, usize), TextFault>
-    ensures { IfOk result (λ p. TookOrder initial keys fields text.now p.0 p.1) }
+    ensures { IfOk result (λ p. TookOrder R.initial R.keys R.fields text.now p.0 p.1) }
 {
     let (verb, value, taken) = read_verb(text)?;
     let place = value as usize;
