@@ -1,6 +1,6 @@
 -- The card of a joint of any kind: line 1, the lines behind it, and that its text has one reading.
 use Rattle.std.proofs.Common.{◌≡◌, ℕ, ◌+◌, ◌-◌, List, [], ◌∷◌, ◌++◌, length, get_or, take, drop, codes, sym, refl, ap, ◌∙◌, subst, arith, take-add}
-use Rattle.std.specs.List.{AllByRecursion as All}
+use Rattle.std.specs.List.{AllByRecursion}
 use Rattle.std.proofs.ByRecursion.{All-append}
 use Rattle.std.proofs.lemmas.List.{take_rest, take_at, take-append-drop, length-append, length-take-le, append_cancel_left}
 use Rattle.card.specs.declared.fault.TextFault.{TextFault}
@@ -53,13 +53,13 @@ kind_accepted letter text rest NotJoint plain e bad =
 kind_accepted letter text rest (NotKey at) plain e bad = bad
 kind_accepted letter text rest (NotNumber at) plain e bad = bad
 
-pub behind_accepted : (letter : ℕ) (ks : List (List ℕ)) (vs text rest : List ℕ) (f : TextFault) → All NoFeed ks → length vs ≡ length ks → All Small vs → text ≡ joint_text letter ks vs ++ rest → Behind letter ks text f → ⊥
+pub behind_accepted : (letter : ℕ) (ks : List (List ℕ)) (vs text rest : List ℕ) (f : TextFault) → AllByRecursion NoFeed ks → length vs ≡ length ks → AllByRecursion Small vs → text ≡ joint_text letter ks vs ++ rest → Behind letter ks text f → ⊥
 behind_accepted letter ks vs text rest f free long low e bad =
     let inner = append_cancel_left (kind_line letter) bad.rest (lines_of ks vs ++ rest) (sym bad.split ∙ e) in
     lines_accepted ks vs rest f free long low (subst (λ (x : List ℕ). Refuses ks x f) inner bad.later)
 
 -- the values and the bytes of a card are the only ones
-pub took_same : (letter : ℕ) (ks : List (List ℕ)) (us vs text rest : List ℕ) (n : ℕ) → length us ≡ length ks → length vs ≡ length ks → TookJoint letter ks us text n → All Small vs → text ≡ joint_text letter ks vs ++ rest → (us ≡ vs) × (n ≡ length (joint_text letter ks vs))
+pub took_same : (letter : ℕ) (ks : List (List ℕ)) (us vs text rest : List ℕ) (n : ℕ) → length us ≡ length ks → length vs ≡ length ks → TookJoint letter ks us text n → AllByRecursion Small vs → text ≡ joint_text letter ks vs ++ rest → (us ≡ vs) × (n ≡ length (joint_text letter ks vs))
 took_same letter ks us vs text rest n long long' t low e =
     let cut : text ≡ joint_text letter ks us ++ drop n text = sym (take-append-drop n text) ∙ ap (λ (x : List ℕ). x ++ drop n text) t.taken in
     let inner = append_cancel_left (kind_line letter) (lines_of ks us ++ drop n text) (lines_of ks vs ++ rest) (sym cut ∙ e) in

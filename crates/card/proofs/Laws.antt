@@ -1,6 +1,6 @@
 -- Lines that are written have one reading: their values can be told from the text, and they have no fault.
 use Rattle.std.proofs.Common.{◌≡◌, ℕ, zero, suc, ◌+◌, ◌<◌, true, not, eqb, List, [], ◌∷◌, ◌++◌, length, get_or, take, drop, decimal, sym, refl, ap, ◌∙◌, subst, ⊎_elim, append_assoc, arith}
-use Rattle.std.specs.List.{AllByRecursion as All}
+use Rattle.std.specs.List.{AllByRecursion}
 use Rattle.std.proofs.lemmas.Fmt.{digits_decimal, decimal_nonempty, length-decimal-le, first_decimal, decimal_injective, decimal_digit}
 use Rattle.std.proofs.ByRecursion.{All-from_get_or, All-append, All-take, All-get_or}
 use Rattle.std.proofs.lemmas.List.{append_cancel_left, length-take-le, drop_more}
@@ -53,7 +53,7 @@ line_cancel k x y u v low low' e =
     let both = feed_cancel (decimal u) (decimal v) x y (no_feed_decimal u low) (no_feed_decimal v low') tail in
     (decimal_injective u v (omega arith) (omega arith) both.0, both.1)
 
-pub lines_cancel : (ks : List (List ℕ)) (us vs x y : List ℕ) → length us ≡ length ks → length vs ≡ length ks → All Small us → All Small vs → lines_of ks us ++ x ≡ lines_of ks vs ++ y → (us ≡ vs) × (x ≡ y)
+pub lines_cancel : (ks : List (List ℕ)) (us vs x y : List ℕ) → length us ≡ length ks → length vs ≡ length ks → AllByRecursion Small us → AllByRecursion Small vs → lines_of ks us ++ x ≡ lines_of ks vs ++ y → (us ≡ vs) × (x ≡ y)
 lines_cancel [] [] [] x y p q f g e = (refl, e)
 lines_cancel [] [] (v ∷ vs) x y p q f g e = absurd (omega arith)
 lines_cancel [] (u ∷ us) vs x y p q f g e = absurd (omega arith)
@@ -94,7 +94,7 @@ line_accepted n k x v (NotNumber at) free low bad =
     h.3 (subst Number (sym ds) (number_decimal v low))
 line_accepted n k x v NotJoint free low bad = bad
 
-pub lines_accepted : (ks : List (List ℕ)) (vs x : List ℕ) (f : TextFault) → All NoFeed ks → length vs ≡ length ks → All Small vs → Refuses ks (lines_of ks vs ++ x) f → ⊥
+pub lines_accepted : (ks : List (List ℕ)) (vs x : List ℕ) (f : TextFault) → AllByRecursion NoFeed ks → length vs ≡ length ks → AllByRecursion Small vs → Refuses ks (lines_of ks vs ++ x) f → ⊥
 lines_accepted ks vs x f free same low bad =
     let i = bad.index in
     let up = bad.before in
@@ -115,6 +115,6 @@ pub clean : (bs : List ℕ) → feedless bs ≡ true → NoFeed bs
 clean [] e = tt
 clean (b ∷ bs) e = let p = and_parts (not (eqb b 10)) (feedless bs) e in (eqb-false b 10 (not-true (eqb b 10) p.0), clean bs p.1)
 
-pub cleans : (ks : List (List ℕ)) → all_feedless ks ≡ true → All NoFeed ks
+pub cleans : (ks : List (List ℕ)) → all_feedless ks ≡ true → AllByRecursion NoFeed ks
 cleans [] e = tt
 cleans (k ∷ ks) e = let p = and_parts (feedless k) (all_feedless ks) e in (clean k p.0, cleans ks p.1)

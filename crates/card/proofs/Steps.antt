@@ -1,6 +1,6 @@
 -- What one turn of the loop over the keys keeps.
 use Rattle.std.proofs.Common.{◌≡◌, ℕ, ◌+◌, ◌-◌, ◌<◌, ◌≤◌, List, [], ◌∷◌, ◌++◌, length, get_or, take, drop, set, sym, ap, ◌∙◌, subst, append_assoc, append-nil, arith, take-add, Bor}
-use Rattle.std.specs.List.{AllByRecursion as All}
+use Rattle.std.specs.List.{AllByRecursion}
 use Rattle.std.proofs.ByRecursion.{All-push}
 use Rattle.std.proofs.lemmas.List.{take-append-drop, take_all, take_more, take_more_set, take_rest, length-take-le, length-drop, length-map, get_or-map}
 use Rattle.card.specs.Text.{Small, bytes_of, line_of, lines_of, TookLine, FailsAt, Took, Refuses}
@@ -8,7 +8,7 @@ use Rattle.card.specs.declared.fault.TextFault.{TextFault}
 
 -- the first i values have been read from the first n bytes
 pub record Sofar (ks : List (List ℕ)) (text vs : List ℕ) (i n : ℕ) : Type 0 where
-  pub small : All Small (take i vs)
+  pub small : AllByRecursion Small (take i vs)
   pub within : n ≤ length text
   pub taken : take n text ≡ lines_of (take i ks) (take i vs)
 
@@ -28,7 +28,7 @@ sofar_more ks text vs i n v m l room h t =
     let a = length-take-le i ks (omega arith) in
     let b = length-take-le i vs (omega arith) in
     record {
-      small = subst (All Small) (sym values) (All-push Small (take i vs) v h.small t.small);
+      small = subst (AllByRecursion Small) (sym values) (All-push Small (take i vs) v h.small t.small);
       within = omega (arith, length-drop n text, t.within, h.within);
       taken = take-add n m text ∙ ap (λ (x : List ℕ). x ++ take m (drop n text)) h.taken ∙ ap (λ (x : List ℕ). lines_of (take i ks) (take i vs) ++ x) t.taken ∙ sym (lines_push (take i ks) (take i vs) (get_or ks i []) v (omega arith)) ∙ ap (λ (x : List (List ℕ)). lines_of x (take i vs ++ (v ∷ []))) (sym keys) ∙ ap (lines_of (take (i + 1) ks)) (sym values);
     }
@@ -36,7 +36,7 @@ sofar_more ks text vs i n v m l room h t =
 pub sofar_all : (ks : List (List ℕ)) (text vs : List ℕ) (i n : ℕ) → i ≡ length ks → length ks ≤ length vs → Sofar ks text vs i n → Took ks text (take (length ks) vs) n
 sofar_all ks text vs i n end room h = record {
   count = length-take-le (length ks) vs room;
-  small = subst (λ (m : ℕ). All Small (take m vs)) end h.small;
+  small = subst (λ (m : ℕ). AllByRecursion Small (take m vs)) end h.small;
   within = h.within;
   taken = h.taken ∙ ap (λ (m : ℕ). lines_of (take m ks) (take m vs)) end ∙ ap (λ (x : List (List ℕ)). lines_of x (take (length ks) vs)) (take_all (length ks) ks (omega arith));
 }

@@ -1,6 +1,6 @@
 -- The text of a card, and what reading answers.
 use Rattle.std.specs.Prelude.{◌≡◌, ℕ, ◌≤◌, ◌⊎◌, List, ◌++◌, length, take, Ok, Result, MatchResult}
-use Rattle.std.specs.List.{AllByRecursion as All}
+use Rattle.std.specs.List.{AllByRecursion}
 use Rattle.card.specs.declared.fault.TextFault.{TextFault}
 use Rattle.card.specs.declared.card.Card.{Card}
 use Rattle.card.specs.declared.card.Card.TheVariants.{Header, Fin}
@@ -16,8 +16,8 @@ card_text (Fin j) = joint_text 70 fin_keys (fin_fields j)
 
 -- no value has more than eight digits
 abbrev pub SmallCard : Card → Type 0
-SmallCard (Header j) = All Small (header_fields j)
-SmallCard (Fin j) = All Small (fin_fields j)
+SmallCard (Header j) = AllByRecursion Small (header_fields j)
+SmallCard (Fin j) = AllByRecursion Small (fin_fields j)
 
 -- the first n bytes of text are the card
 pub record TookCard (text : List ℕ) (c : Card) (n : ℕ) : Type 0 where

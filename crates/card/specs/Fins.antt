@@ -1,6 +1,6 @@
 -- The lines of a fin plate's card.
 use Rattle.std.specs.Prelude.{ℕ, List, [], ◌∷◌, codes}
-use Rattle.fin.specs.declared.joint.FinJoint.{FinJoint}
+use Rattle.fin.specs.declared.fin_joint.FinJoint.{FinJoint}
 
 -- the keys, from line 2 on
 abbrev pub fin_keys : List (List ℕ)

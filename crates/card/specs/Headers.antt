@@ -1,6 +1,6 @@
 -- The lines of a header plate's card.
 use Rattle.std.specs.Prelude.{ℕ, List, [], ◌∷◌, codes}
-use Rattle.header.specs.declared.joint.HeaderJoint.{HeaderJoint}
+use Rattle.header.specs.declared.header_joint.HeaderJoint.{HeaderJoint}
 
 -- the keys, from line 2 on
 abbrev pub header_keys : List (List ℕ)

@@ -1,6 +1,6 @@
 -- The card of a joint, for the kind with this letter on line 1 and these keys behind it.
 use Rattle.std.specs.Prelude.{◌≡◌, ℕ, ◌≤◌, ◌⊎◌, List, [], ◌∷◌, ◌++◌, length, take, Ok, codes, Result, MatchResult, ◌≢◌}
-use Rattle.std.specs.List.{AllByRecursion as All}
+use Rattle.std.specs.List.{AllByRecursion}
 use Rattle.card.specs.declared.fault.TextFault.{TextFault}
 use Rattle.card.specs.declared.fault.TextFault.TheVariants.{NoLineFeed, NotJoint, NotKey, NotNumber}
 use Rattle.card.specs.Text.{Small, NoFeed, FirstLine, lines_of, Refuses}
@@ -15,7 +15,7 @@ joint_text letter ks vs = kind_line letter ++ lines_of ks vs
 
 -- the first n bytes of text are the card with these values
 pub record TookJoint (letter : ℕ) (ks : List (List ℕ)) (vs text : List ℕ) (n : ℕ) : Type 0 where
-  pub small : All Small vs
+  pub small : AllByRecursion Small vs
   pub within : n ≤ length text
   pub taken : take n text ≡ joint_text letter ks vs
 
@@ -40,4 +40,4 @@ ReadsJoint letter ks values_of text r =
 -- a text that begins with the card of a joint is read as that joint
 abbrev pub UniqueJoint : {J : Type 0} → ℕ → List (List ℕ) → (J → List ℕ) → List ℕ → Result (J × ℕ) TextFault → Type 0
 UniqueJoint {J} letter ks values_of text r =
-    (j : J) (rest : List ℕ) → All Small (values_of j) → text ≡ joint_text letter ks (values_of j) ++ rest → r ≡ Ok (j, length (joint_text letter ks (values_of j)))
+    (j : J) (rest : List ℕ) → AllByRecursion Small (values_of j) → text ≡ joint_text letter ks (values_of j) ++ rest → r ≡ Ok (j, length (joint_text letter ks (values_of j)))

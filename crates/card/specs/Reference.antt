@@ -1,9 +1,9 @@
 -- The reference cards of both kinds, and the modes whose figures are quoted of them.
 use Rattle.std.specs.Prelude.{List, [], ◌∷◌}
 use Rattle.fin.specs.FinModes as F
-use Rattle.fin.specs.declared.joint.FinJoint.{FinJoint}
+use Rattle.fin.specs.declared.fin_joint.FinJoint.{FinJoint}
 use Rattle.header.specs.HeaderModes as H
-use Rattle.header.specs.declared.joint.HeaderJoint.{HeaderJoint}
+use Rattle.header.specs.declared.header_joint.HeaderJoint.{HeaderJoint}
 use Rattle.resistance.specs.declared.expression.Expression.{Expression}
 
 abbrev pub reference_header : HeaderJoint

@@ -1,7 +1,7 @@
 -- The lines of a card. A text is a list of bytes: 10 is the line feed, 61 is =, 48 is the digit 0.
 use Rattle.std.specs.Prelude.{◌≡◌, ℕ, ◌+◌, ◌^◌, ◌<◌, ◌≤◌, Bool, true, not, ◌&&◌, List, [], ◌∷◌, ◌++◌, map, length, get_or, take, decimal, ◌==◌, ◌≢◌, slice_index_or}
 use Rattle.std.specs.Borrow.{Bor}
-use Rattle.std.specs.List.{AllByRecursion as All}
+use Rattle.std.specs.List.{AllByRecursion}
 use Rattle.std.specs.Str.{all_ascii_digits}
 use Rattle.card.specs.declared.fault.TextFault.{TextFault}
 use Rattle.card.specs.declared.fault.TextFault.TheVariants.{NoLineFeed, NotJoint, NotKey, NotNumber}
@@ -33,7 +33,7 @@ pub record Number (ds : List ℕ) : Type 0 where
 
 -- no byte is a line feed
 abbrev pub NoFeed : List ℕ → Type 0
-NoFeed bs = All (λ b. b ≢ 10) bs
+NoFeed bs = AllByRecursion (λ b. b ≢ 10) bs
 
 -- the same as a test, for one key and for a table of keys
 abbrev pub feedless : List ℕ → Bool
@@ -65,7 +65,7 @@ FailsAt n key text NotJoint = ⊥
 -- the first n bytes of text are a line for each key, with these values
 pub record Took (ks : List (List ℕ)) (text vs : List ℕ) (n : ℕ) : Type 0 where
   pub count : length vs ≡ length ks
-  pub small : All Small vs
+  pub small : AllByRecursion Small vs
   pub within : n ≤ length text
   pub taken : take n text ≡ lines_of ks vs
 
@@ -74,7 +74,7 @@ pub record Upto (ks : List (List ℕ)) (text : List ℕ) (i : ℕ) (rest : List 
   pub due : i < length ks
   pub values : List ℕ
   pub count : length values ≡ i
-  pub small : All Small values
+  pub small : AllByRecursion Small values
   pub split : text ≡ lines_of (take i ks) values ++ rest
 
 -- the first fault of text, where the keys are due from line 2 on

@@ -3,8 +3,8 @@ ghost use Rattle.card.specs.Cards.{Reads, Unique};
 
 use crate::fault::TextFault;
 use crate::kind;
-use fin::joint::FinJoint;
-use header::joint::HeaderJoint;
+use fin::fin_joint::FinJoint;
+use header::header_joint::HeaderJoint;
 
 #[derive(Clone, Copy, PartialEq, Eq, Debug)]
 pub enum Card {

@@ -3,7 +3,7 @@ ghost use Rattle.card.specs.Fins.{fin_keys, fin_fields};
 
 use crate::kind::{CardKind, Values};
 use components::bolts::Bolts;
-use fin::joint::{Demands, FinJoint, Layout, Parts, Steels};
+use fin::fin_joint::{Demands, FinJoint, Layout, Parts, Steels};
 
 const FIN_KEYS: [&[u8]; 21] = [
     b"plate", b"web", b"bolt", b"grade", b"plane", b"rows", b"e1", b"p1", b"e2", b"z", b"tp",

@@ -3,7 +3,7 @@ ghost use Rattle.card.specs.Headers.{header_keys, header_fields};
 
 use crate::kind::{CardKind, Values};
 use components::bolts::Bolts;
-use header::joint::{Demands, HeaderJoint, Layout, Parts, Steels};
+use header::header_joint::{Demands, HeaderJoint, Layout, Parts, Steels};
 
 const HEADER_KEYS: [&[u8]; 20] = [
     b"plate", b"web", b"supp", b"bolt", b"grade", b"plane", b"rows", b"e1", b"p1", b"e2", b"p2",

@@ -8,8 +8,8 @@ ghost use Rattle.header.specs.HeaderKinds.{header_kind};
 ghost use Rattle.resistance.specs.Expressions.{printed};
 
 use crate::kind::CardKind;
-use fin::joint::FinJoint;
-use header::joint::HeaderJoint;
+use fin::fin_joint::FinJoint;
+use header::header_joint::HeaderJoint;
 
 // As the expressions print them: the reference fin card in modes 1, 2, 4, 5, 8, 11, 22 and 25, and the reference header card in
 // modes 1, 2, 3, 4, 6 and 8.

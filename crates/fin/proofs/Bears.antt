@@ -6,7 +6,7 @@ use Rattle.components.specs.Tabled.{hole_of}
 use Rattle.components.specs.declared.bearing.Bearing.{Bearing}
 use Rattle.components.proofs.BearParts.{Limits, Small, k_small, k'_small, u_small, w_small, smaller_small}
 use Rattle.fin.specs.FinModes.{on_plate, on_web, plate_k, plate_α, plate_k_across, plate_α_across, web_k, web_α, web_k_across, web_α_across}
-use Rattle.fin.specs.declared.joint.FinJoint.{FinJoint}
+use Rattle.fin.specs.declared.fin_joint.FinJoint.{FinJoint}
 use Rattle.fin.specs.Ranges.{Admitted}
 
 limits_from : (b : Bearing) (x α : Ratio) → b.bolts ≤ 10 → b.bolt ≤ 30 → b.thickness ≤ 250 → Small x → Small α → Limits b x α

@@ -5,11 +5,11 @@ use Rattle.joint.specs.declared.fault.JointFault.{JointFault}
 use Rattle.joint.specs.declared.fault.JointFault.TheVariants.{NotAllowed, TooClose, PlateTooThin, NoGap, UsedUp}
 use Rattle.components.specs.Tabled.{hole_of, steel, bolt_size, bolt_class}
 use Rattle.components.specs.declared.bolts.Bolts.{Bolts}
-use Rattle.fin.specs.declared.joint.FinJoint.{FinJoint}
-use Rattle.fin.specs.declared.joint.Steels.{Steels}
-use Rattle.fin.specs.declared.joint.Layout.{Layout}
-use Rattle.fin.specs.declared.joint.Parts.{Parts}
-use Rattle.fin.specs.declared.joint.Demands.{Demands}
+use Rattle.fin.specs.declared.fin_joint.FinJoint.{FinJoint}
+use Rattle.fin.specs.declared.fin_joint.Steels.{Steels}
+use Rattle.fin.specs.declared.fin_joint.Layout.{Layout}
+use Rattle.fin.specs.declared.fin_joint.Parts.{Parts}
+use Rattle.fin.specs.declared.fin_joint.Demands.{Demands}
 
 abbrev pub steel_checks : Steels → List (Bool × JointFault)
 steel_checks s = (steel s.plate, NotAllowed 1) ∷ (steel s.web, NotAllowed 2) ∷ []

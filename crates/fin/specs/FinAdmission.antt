@@ -6,7 +6,7 @@ use Rattle.joint.specs.Checked.{none_of, of_list, then}
 use Rattle.joint.specs.declared.fault.JointFault.{JointFault}
 use Rattle.fin.specs.FieldChecks.{first_fault, steel_checks, bolt_checks, layout_checks, part_checks, demand_checks, distance_checks, whole_checks}
 use Rattle.fin.specs.declared.fin.Fin.{Fin}
-use Rattle.fin.specs.declared.joint.FinJoint.{FinJoint}
+use Rattle.fin.specs.declared.fin_joint.FinJoint.{FinJoint}
 
 -- the fin plate that a card says, if it has no fault
 abbrev pub make_fin : (j : FinJoint) → none_of (first_fault j) ≡ true → Fin

@@ -5,7 +5,7 @@ use Rattle.fin.specs.FinAdmission.{fin_admission}
 use Rattle.fin.specs.FinModes.{fin_mode, fin_binds}
 use Rattle.fin.specs.FinRequirements.{fin_unmet}
 use Rattle.fin.specs.declared.fin.Fin.{Fin}
-use Rattle.fin.specs.declared.joint.FinJoint.{FinJoint}
+use Rattle.fin.specs.declared.fin_joint.FinJoint.{FinJoint}
 
 abbrev pub fin_kind : Ghosts Fin FinJoint
 fin_kind = record {

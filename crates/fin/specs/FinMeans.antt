@@ -23,7 +23,7 @@ use Rattle.fin.specs.FieldChecks.{first_fault}
 use Rattle.fin.specs.FinAdmission.{make_fin, fin_admission}
 use Rattle.fin.specs.FinModes.{shear_modes, tying_modes, shear_binds, tying_binds, shallow, torn_of, web_torn_of, length_of, plate_bending, bolt_total, plate_down, plate_across, web_down, web_across, group_by, on_plate, on_web, plate_k, plate_α, plate_k_across, plate_α_across, web_k, web_α, web_k_across, web_α_across, fin_mode, fin_binds}
 use Rattle.fin.specs.declared.fin.Fin.{Fin}
-use Rattle.fin.specs.declared.joint.FinJoint.{FinJoint}
+use Rattle.fin.specs.declared.fin_joint.FinJoint.{FinJoint}
 use Rattle.fin.specs.Ranges.{Admitted, ranges}
 use Rattle.fin.specs.Tried.{accepted}
 

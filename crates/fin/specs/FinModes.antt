@@ -11,7 +11,7 @@ use Rattle.components.specs.Tabled.{fu, fub, hole_of, area_of, shear_of}
 use Rattle.components.specs.declared.bearing.Bearing.{Bearing}
 use Rattle.joint.specs.Modes.{mode_in}
 use Rattle.fin.specs.declared.fin.Fin.{Fin}
-use Rattle.fin.specs.declared.joint.FinJoint.{FinJoint}
+use Rattle.fin.specs.declared.fin_joint.FinJoint.{FinJoint}
 
 module _ (j : FinJoint) where
   -- the hole of the bolts, which stand in one column

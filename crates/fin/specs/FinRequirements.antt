@@ -8,7 +8,7 @@ use Rattle.joint.specs.Unmet.{unmet_of}
 use Rattle.joint.specs.declared.requirements.Requirements.{Requirements}
 use Rattle.fin.specs.FinModes.{depth_of, bolt_total, plate_across, web_across, bolt_group, plate_bearing, web_bearing}
 use Rattle.fin.specs.declared.fin.Fin.{Fin}
-use Rattle.fin.specs.declared.joint.FinJoint.{FinJoint}
+use Rattle.fin.specs.declared.fin_joint.FinJoint.{FinJoint}
 
 -- the printed figure of a mode, and 0 where it does not bind
 abbrev pub or_nought : Option ℕ → ℕ

@@ -6,7 +6,7 @@ use Rattle.components.proofs.Listed.{Range, steel_range, class_range, bolt_range
 use Rattle.joint.specs.Checked.{none_of}
 use Rattle.joint.proofs.Turns.{passes, low, high}
 use Rattle.fin.specs.FieldChecks.{checks, first_fault}
-use Rattle.fin.specs.declared.joint.FinJoint.{FinJoint}
+use Rattle.fin.specs.declared.fin_joint.FinJoint.{FinJoint}
 
 pub record Admitted (j : FinJoint) : Type 0 where
   pub plate : Range 235 460 360 540 j.steels.plate (fu j.steels.plate)

@@ -9,7 +9,7 @@ use Rattle.joint.proofs.Turns.{in_turn, none_from, some_from}
 use Rattle.fin.specs.FieldChecks.{checks, first_fault, steel_checks, bolt_checks, layout_checks, part_checks, demand_checks, distance_checks, whole_checks}
 use Rattle.fin.specs.FinAdmission.{make_fin, fin_admission, outcomes}
 use Rattle.fin.specs.declared.fin.Fin.{Fin}
-use Rattle.fin.specs.declared.joint.FinJoint.{FinJoint}
+use Rattle.fin.specs.declared.fin_joint.FinJoint.{FinJoint}
 
 outcomes_are : (j : FinJoint) → outcomes j ≡ of_list (checks j)
 unfolding checks

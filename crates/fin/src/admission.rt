@@ -4,7 +4,7 @@ ghost use Rattle.joint.specs.Checked.{of_list};
 ghost use Rattle.fin.specs.FieldChecks.{steel_checks, bolt_checks, layout_checks, part_checks, demand_checks, distance_checks, whole_checks};
 ghost use Rattle.fin.specs.FinAdmission.{outcomes};
 
-use crate::joint::{Demands, FinJoint, Layout, Parts, Steels};
+use crate::fin_joint::{Demands, FinJoint, Layout, Parts, Steels};
 use components::bolts::Bolts;
 use components::tables::{hole, is_bolt, is_class, is_steel};
 use joint::checks::{allowed, apart, is_within};

@@ -2,7 +2,7 @@ ghost use Rattle.std.specs.Prelude.{◌≡◌, true};
 ghost use Rattle.joint.specs.Checked.{none_of};
 ghost use Rattle.fin.specs.FieldChecks.{first_fault};
 
-use crate::joint::FinJoint;
+use crate::fin_joint::FinJoint;
 
 // A fin plate that its sheet admits. Only admission makes one.
 #[derive(Clone, Copy)]

@@ -9,7 +9,7 @@ ghost use Rattle.fin.specs.FinMeans.{fin_means};
 
 use crate::admission::check_all;
 use crate::fin::Fin;
-use crate::joint::FinJoint;
+use crate::fin_joint::FinJoint;
 use joint::checks::is_within;
 use joint::fault::JointFault;
 use joint::kind::Kind;

@@ -3,7 +3,7 @@
 
 mod admission;
 pub mod fin;
-pub mod joint;
+pub mod fin_joint;
 pub mod kind;
 mod modes;
 pub mod sheet;

@@ -4,7 +4,7 @@ ghost use Rattle.fin.specs.FinKinds.{fin_kind};
 ghost use Rattle.joint.specs.Sheets.{judged, QuotedCard};
 
 use crate::fin::Fin;
-use crate::joint::FinJoint;
+use crate::fin_joint::FinJoint;
 use joint::fault::JointFault;
 use joint::sheet::Sheet;
 use joint::work::judged_sheet;

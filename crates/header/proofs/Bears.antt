@@ -6,7 +6,7 @@ use Rattle.components.specs.Bears.{k, u, w, most}
 use Rattle.components.specs.Tabled.{hole_of}
 use Rattle.components.proofs.BearParts.{Limits, Small, k_small, u_small, w_small, most_small, smaller_small}
 use Rattle.header.specs.HeaderModes.{on_plate, on_support, support_edge}
-use Rattle.header.specs.declared.joint.HeaderJoint.{HeaderJoint}
+use Rattle.header.specs.declared.header_joint.HeaderJoint.{HeaderJoint}
 use Rattle.header.specs.Ranges.{Admitted}
 
 module _ (j : HeaderJoint) (a : Admitted j) where

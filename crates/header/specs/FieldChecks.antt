@@ -5,11 +5,11 @@ use Rattle.joint.specs.declared.fault.JointFault.{JointFault}
 use Rattle.joint.specs.declared.fault.JointFault.TheVariants.{NotAllowed, TooClose}
 use Rattle.components.specs.Tabled.{hole_of, steel, bolt_size, bolt_class}
 use Rattle.components.specs.declared.bolts.Bolts.{Bolts}
-use Rattle.header.specs.declared.joint.HeaderJoint.{HeaderJoint}
-use Rattle.header.specs.declared.joint.Steels.{Steels}
-use Rattle.header.specs.declared.joint.Layout.{Layout}
-use Rattle.header.specs.declared.joint.Parts.{Parts}
-use Rattle.header.specs.declared.joint.Demands.{Demands}
+use Rattle.header.specs.declared.header_joint.HeaderJoint.{HeaderJoint}
+use Rattle.header.specs.declared.header_joint.Steels.{Steels}
+use Rattle.header.specs.declared.header_joint.Layout.{Layout}
+use Rattle.header.specs.declared.header_joint.Parts.{Parts}
+use Rattle.header.specs.declared.header_joint.Demands.{Demands}
 
 abbrev pub steel_checks : Steels → List (Bool × JointFault)
 steel_checks s = (steel s.plate, NotAllowed 1) ∷ (steel s.web, NotAllowed 2) ∷ (steel s.supp, NotAllowed 3) ∷ []

@@ -6,7 +6,7 @@ use Rattle.joint.specs.Checked.{none_of, of_list, then}
 use Rattle.joint.specs.declared.fault.JointFault.{JointFault}
 use Rattle.header.specs.FieldChecks.{first_fault, steel_checks, bolt_checks, layout_checks, part_checks, demand_checks, distance_checks}
 use Rattle.header.specs.declared.header.Header.{Header}
-use Rattle.header.specs.declared.joint.HeaderJoint.{HeaderJoint}
+use Rattle.header.specs.declared.header_joint.HeaderJoint.{HeaderJoint}
 
 -- the header plate that a card says, if it has no fault
 abbrev pub make_header : (j : HeaderJoint) → none_of (first_fault j) ≡ true → Header

@@ -5,7 +5,7 @@ use Rattle.header.specs.HeaderAdmission.{header_admission}
 use Rattle.header.specs.HeaderModes.{header_mode, header_binds}
 use Rattle.header.specs.HeaderRequirements.{header_unmet}
 use Rattle.header.specs.declared.header.Header.{Header}
-use Rattle.header.specs.declared.joint.HeaderJoint.{HeaderJoint}
+use Rattle.header.specs.declared.header_joint.HeaderJoint.{HeaderJoint}
 
 abbrev pub header_kind : Ghosts Header HeaderJoint
 header_kind = record {

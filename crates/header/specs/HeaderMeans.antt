@@ -19,7 +19,7 @@ use Rattle.header.specs.FieldChecks.{first_fault}
 use Rattle.header.specs.HeaderAdmission.{make_header, header_admission}
 use Rattle.header.specs.HeaderModes.{shear_modes, shear_binds, shallow, sides_of, torn_of, plate_bending, on_plate, on_support, support_edge, header_mode, header_binds}
 use Rattle.header.specs.declared.header.Header.{Header}
-use Rattle.header.specs.declared.joint.HeaderJoint.{HeaderJoint}
+use Rattle.header.specs.declared.header_joint.HeaderJoint.{HeaderJoint}
 use Rattle.header.specs.Ranges.{Admitted, ranges}
 use Rattle.components.proofs.Plates.{depth_most}
 use Rattle.header.specs.Tried.{accepted}

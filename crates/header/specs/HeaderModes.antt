@@ -10,7 +10,7 @@ use Rattle.components.specs.Tabled.{fu, fub, hole_of, area_of, shear_of}
 use Rattle.components.specs.declared.bearing.Bearing.{Bearing}
 use Rattle.joint.specs.Modes.{mode_in}
 use Rattle.header.specs.declared.header.Header.{Header}
-use Rattle.header.specs.declared.joint.HeaderJoint.{HeaderJoint}
+use Rattle.header.specs.declared.header_joint.HeaderJoint.{HeaderJoint}
 
 module _ (j : HeaderJoint) where
   -- the hole of the bolts

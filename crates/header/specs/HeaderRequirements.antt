@@ -6,7 +6,7 @@ use Rattle.joint.specs.Unmet.{unmet_of}
 use Rattle.joint.specs.declared.requirements.Requirements.{Requirements}
 use Rattle.header.specs.HeaderModes.{depth_of}
 use Rattle.header.specs.declared.header.Header.{Header}
-use Rattle.header.specs.declared.joint.HeaderJoint.{HeaderJoint}
+use Rattle.header.specs.declared.header_joint.HeaderJoint.{HeaderJoint}
 
 module _ (j : HeaderJoint) where
   -- 1: hp ≤ db

@@ -6,7 +6,7 @@ use Rattle.components.proofs.Listed.{Range, steel_range, class_range, bolt_range
 use Rattle.joint.specs.Checked.{none_of}
 use Rattle.joint.proofs.Turns.{passes, low, high}
 use Rattle.header.specs.FieldChecks.{checks, first_fault}
-use Rattle.header.specs.declared.joint.HeaderJoint.{HeaderJoint}
+use Rattle.header.specs.declared.header_joint.HeaderJoint.{HeaderJoint}
 
 pub record Admitted (j : HeaderJoint) : Type 0 where
   pub plate : Range 235 460 360 540 j.steels.plate (fu j.steels.plate)

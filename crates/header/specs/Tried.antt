@@ -9,7 +9,7 @@ use Rattle.joint.proofs.Turns.{in_turn, none_from, some_from}
 use Rattle.header.specs.FieldChecks.{checks, first_fault, steel_checks, bolt_checks, layout_checks, part_checks, demand_checks, distance_checks}
 use Rattle.header.specs.HeaderAdmission.{make_header, header_admission, outcomes}
 use Rattle.header.specs.declared.header.Header.{Header}
-use Rattle.header.specs.declared.joint.HeaderJoint.{HeaderJoint}
+use Rattle.header.specs.declared.header_joint.HeaderJoint.{HeaderJoint}
 
 outcomes_are : (j : HeaderJoint) → outcomes j ≡ of_list (checks j)
 unfolding checks

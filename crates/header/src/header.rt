@@ -2,7 +2,7 @@ ghost use Rattle.std.specs.Prelude.{◌≡◌, true};
 ghost use Rattle.joint.specs.Checked.{none_of};
 ghost use Rattle.header.specs.FieldChecks.{first_fault};
 
-use crate::joint::HeaderJoint;
+use crate::header_joint::HeaderJoint;
 
 // A header plate that its sheet admits. Only admission makes one.
 #[derive(Clone, Copy)]

@@ -8,7 +8,7 @@ ghost use Rattle.header.specs.HeaderMeans.{header_means};
 
 use crate::admission::check_all;
 use crate::header::Header;
-use crate::joint::HeaderJoint;
+use crate::header_joint::HeaderJoint;
 use joint::checks::is_within;
 use joint::fault::JointFault;
 use joint::kind::Kind;

@@ -3,7 +3,7 @@
 
 mod admission;
 pub mod header;
-pub mod joint;
+pub mod header_joint;
 pub mod kind;
 mod modes;
 pub mod sheet;

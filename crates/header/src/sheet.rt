@@ -4,7 +4,7 @@ ghost use Rattle.header.specs.HeaderKinds.{header_kind};
 ghost use Rattle.joint.specs.Sheets.{judged, QuotedCard};
 
 use crate::header::Header;
-use crate::joint::HeaderJoint;
+use crate::header_joint::HeaderJoint;
 use joint::fault::JointFault;
 use joint::sheet::Sheet;
 use joint::work::judged_sheet;

@@ -1,8 +1,8 @@
 // The cards of the trials.
 use components::bolts::Bolts;
-use fin::joint as fin_joint;
-use fin::joint::FinJoint;
-use header::joint::{Demands, HeaderJoint, Layout, Parts, Steels};
+use fin::fin_joint;
+use fin::fin_joint::FinJoint;
+use header::header_joint::{Demands, HeaderJoint, Layout, Parts, Steels};
 use std::alloc::{AllocError, Global};
 
 // Three bolts M20 of class 8.8 in a column, with the thread in the shear plane.

@@ -2,7 +2,7 @@ use crate::cards::{fin_card, reference_card, reference_text, trade_card};
 use account::account::account;
 use card::card::{Card, read_card};
 use fin::fin::Fin;
-use fin::joint::FinJoint;
+use fin::fin_joint::FinJoint;
 use fin::sheet::fin_sheet;
 use header::header::Header;
 use header::sheet::header_sheet;

@@ -2,8 +2,8 @@
 use Rattle.std.proofs.Common.{◌≡◌, ℕ, ◌⊎◌, List, ◌++◌, get_or, drop, Ok, Err, Result, sym, refl, ap, ◌∙◌, subst, inl, inr, arith}
 use Rattle.std.proofs.lemmas.List.{take-append-drop}
 use Rattle.std.proofs.lemmas.Result.{err_from_is_err_and}
-use Rattle.header.specs.declared.joint.HeaderJoint.{HeaderJoint}
-use Rattle.fin.specs.declared.joint.FinJoint.{FinJoint}
+use Rattle.header.specs.declared.header_joint.HeaderJoint.{HeaderJoint}
+use Rattle.fin.specs.declared.fin_joint.FinJoint.{FinJoint}
 use Rattle.card.specs.declared.fault.TextFault.{TextFault}
 use Rattle.card.specs.declared.fault.TextFault.TheVariants.{NoLineFeed, NotJoint, NotKey, NotNumber}
 use Rattle.card.specs.declared.card.Card.{Card}

@@ -1,6 +1,6 @@
 -- The fields are the first 21 values, and they make up the joint.
 use Rattle.std.proofs.Common.{ℕ, List, get_or, ap, arith}
-use Rattle.fin.specs.declared.joint.FinJoint.{FinJoint}
+use Rattle.fin.specs.declared.fin_joint.FinJoint.{FinJoint}
 use Rattle.card.proofs.Spread.{spread_is}
 use Rattle.card.proofs.fin_card.FinJointCardKind.of_values.Goals as goal
 

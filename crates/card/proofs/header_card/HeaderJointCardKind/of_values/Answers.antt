@@ -1,6 +1,6 @@
 -- The fields are the first 20 values, and they make up the joint.
 use Rattle.std.proofs.Common.{ℕ, List, get_or, ap, arith}
-use Rattle.header.specs.declared.joint.HeaderJoint.{HeaderJoint}
+use Rattle.header.specs.declared.header_joint.HeaderJoint.{HeaderJoint}
 use Rattle.card.proofs.Spread.{spread_is}
 use Rattle.card.proofs.header_card.HeaderJointCardKind.of_values.Goals as goal
 
