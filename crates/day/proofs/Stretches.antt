@@ -14,8 +14,8 @@ module _ {J R : Type 0} (k : Ghosts J R) (t : Table J) (noted : List (Call R)) (
   no_call = record { calls = []; logged = sym (append-nil noted); answered = sym (append-nil given); stands = refl }
 
   pub call_more : (u : Table J) (ds : List (Call R)) (bs : List (Answer R)) → Stretch k t noted given u ds bs →
-      (c : Call R) {a : Answer R} {v : Table J} {es : List (Call R)} {es-given : List (Answer R)} →
-      a ≡ answer k u c → v ≡ after k u c → es ≡ ds ++ (c ∷ []) → es-given ≡ bs ++ (a ∷ []) → Stretch k t noted given v es es-given
+      (c : Call R) {a : Answer R} {v : Table J} {es : List (Call R)} {es_given : List (Answer R)} →
+      a ≡ answer k u c → v ≡ after k u c → es ≡ ds ++ (c ∷ []) → es_given ≡ bs ++ (a ∷ []) → Stretch k t noted given v es es_given
   call_more u ds bs s c {a} is e p q = record {
     calls = s.calls ++ (c ∷ []);
     logged = p ∙ ap (λ x. x ++ (c ∷ [])) s.logged ∙ append_assoc noted s.calls (c ∷ []);

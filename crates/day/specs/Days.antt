@@ -47,8 +47,8 @@ module _ {J R : Type 0} where
   Carried k t ks o (NoClass n) u = (o ≡ Class n) × (256 ≤ n) × (u ≡ t)
 
   -- a stretch of a day: calls that lead the table t to u and are noted in the log with the table's answers, behind what it had
-  pub record Stretch (k : Ghosts J R) (t : Table J) (noted : List (Call R)) (given : List (Answer R)) (u : Table J) (all_Noted : List (Call R)) (all-given : List (Answer R)) : Type 0 where
+  pub record Stretch (k : Ghosts J R) (t : Table J) (noted : List (Call R)) (given : List (Answer R)) (u : Table J) (all_noted : List (Call R)) (all_given : List (Answer R)) : Type 0 where
     pub calls : List (Call R)
-    pub logged : all_Noted ≡ noted ++ calls
-    pub answered : all-given ≡ given ++ answers k t calls
+    pub logged : all_noted ≡ noted ++ calls
+    pub answered : all_given ≡ given ++ answers k t calls
     pub stands : u ≡ run k t calls
