@@ -1,5 +1,5 @@
 -- A day at the desk: what becomes of an order, and the day's log.
-use Rattle.std.specs.Prelude.{◌≡◌, ℕ, ◌<◌, ◌≤◌, List, [], ◌∷◌, ◌++◌, length, ◌≢◌, slice_index_or}
+use Rattle.std.specs.Prelude.{◌≡◌, ℕ, ◌<◌, ◌≤◌, List, ◌++◌, length, ◌≢◌, slice_index_or}
 use Rattle.joint.specs.declared.kind.Kind.{Ghosts}
 use Rattle.rail.specs.Runs.{run, answers}
 use Rattle.rail.specs.Table.{Table, answer, after}

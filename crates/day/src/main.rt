@@ -134,7 +134,7 @@ fn report<R>(
     Ok(())
 }
 
-// Replays the day from its log: the same answers, and the same places.
+// Replays the day from its log: the same answers, and as many places hanging and lifted.
 fn check_day<K: Kind>(
     rt: &HostRuntime,
     number: u32,

@@ -1,4 +1,4 @@
--- Fin plates as a kind of joint: what `FinKind` gives for each ghost member of a kind.
+-- Fin plates as a kind of joint: what `impl Kind for Fin` gives for each ghost member of a kind.
 use Rattle.joint.specs.Modes.{printing, Below}
 use Rattle.joint.specs.declared.kind.Kind.{Ghosts}
 use Rattle.fin.specs.FinAdmission.{fin_admission}

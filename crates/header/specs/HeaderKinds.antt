@@ -1,4 +1,4 @@
--- Header plates as a kind of joint: what `HeaderKind` gives for each ghost member of a kind.
+-- Header plates as a kind of joint: what `impl Kind for Header` gives for each ghost member of a kind.
 use Rattle.joint.specs.Modes.{printing, Below}
 use Rattle.joint.specs.declared.kind.Kind.{Ghosts}
 use Rattle.header.specs.HeaderAdmission.{header_admission}

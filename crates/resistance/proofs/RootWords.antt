@@ -1,4 +1,4 @@
--- R and rootUp are what their words say.
+-- R and root_up are what their words say.
 use Rattle.std.proofs.Common.{◌≡◌, ℕ, zero, suc, ◌+◌, ◌*◌, ◌^◌, ◌<◌, ◌≤◌, Bool, true, false, cond, leb, refl, ◌∙◌, le_antisymm, mul-le-mul_left, arith, pow_pos}
 use lib.Ieee.{size}
 use lib.Ieee.Digits.{size-lt}
@@ -67,7 +67,7 @@ root_up_exact (suc n) (suc r) e = root_up_only (suc n) r (omega arith) (omega ar
 pub root_up_pos : (n : ℕ) → 0 < n → 0 < root_up n
 root_up_pos n h = let k = root_up_is n h in omega arith
 
--- what the words say of R and rootUp, at any number that equals them
+-- what the words say of R and root_up, at any number that equals them
 pub R_largest : (q r : ℕ) → r ≡ R q → Largest q r
 R_largest q r is x =
     let k = R_is q in (

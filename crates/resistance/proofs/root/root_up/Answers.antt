@@ -1,4 +1,4 @@
--- `root_up`: the root, and one more unless it is exact, is rootUp, and so the smallest.
+-- `root_up`: the root, and one more unless it is exact, is root_up of specs/, and so the smallest.
 use Rattle.std.proofs.Common.{◌≡◌, ◌+◌, sym, arith}
 use Rattle.resistance.specs.Roots.{root_up}
 use Rattle.resistance.proofs.RootWords.{root_up_exact, root_up_only, root_up_smallest}
