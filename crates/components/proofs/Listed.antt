@@ -1,53 +1,31 @@
--- What a table's rows say, proved once for any table: the walk over it, and the bounds of what it lists.
-use Rattle.std.proofs.Common.{◌≡◌, ℕ, ◌+◌, ◌*◌, ◌<◌, ◌≤◌, Bool, true, false, ◌&&◌, eqb, leb, List, [], ◌∷◌, length, get_or, drop, sym, refl, ◌∙◌, subst, inl, inr, arith}
+-- What the tables say: a fact that every row passes, of the row that a number is listed by; and the bounds of what is listed.
+use Rattle.std.proofs.Common.{◌≡◌, ℕ, ◌*◌, ◌≤◌, Bool, true, false, cond, ◌&&◌, eqb, leb, List, [], ◌∷◌, Some, None, Option, refl, subst, arith}
 use Rattle.std.proofs.lemmas.Bool.Decides.{nat_tests}
-use Rattle.std.proofs.lemmas.List.{at_drop_more}
-use Rattle.std.proofs.lemmas.Bool.{cases_lt, cond-true, cond-false, eq-eqb, ne_eqb, eqb-true, leb-true, and_parts}
-use Rattle.components.specs.Tabled.{row, fu, weld_factor, fub, hole_of, shank_of, stress_of, area_of, shear_of, strengths, bolt_strengths, weld_factors, holes}
+use Rattle.std.proofs.lemmas.Bool.{cond_both, eqb-true, leb-true, and_parts}
+use Rattle.std.specs.List.{find, list_all}
+use Rattle.std.specs.Option.{IfSome, is_some, option_map, unwrap_or}
+use Rattle.components.specs.declared.tables.Steel.{Steel}
+use Rattle.components.specs.Tabled.{steels, bolt_sizes, bolt_classes, steel_row, size_row, class_row, fu, weld_factor, fub, hole_of, shank_of, stress_of, area_of, shear_of, steel, bolt_size, bolt_class}
 
-module _ (t : List (ℕ × ℕ)) (x i : ℕ) (within : i < length t) where
-  -- the row at i is the one
-  pub row_found : (get_or t i (0, 0)).0 ≡ x → row (drop i t) x ≡ (get_or t i (0, 0)).1
-  row_found e =
-      at_drop_more (λ (ps : List (ℕ × ℕ)). row ps x) t i (0, 0) within
-      ∙ cond-true _ (get_or t i (0, 0)).1 (row (drop (i + 1) t) x) (eq-eqb _ x e)
+module _ {X : Type 0} (key : X → ℕ) (n : ℕ) where
+  -- a row that is found goes by the number, and passes what every row passes
+  pub row_passes : (test : X → Bool) (xs : List X) → list_all test xs ≡ true → IfSome (find (λ x. eqb (key x) n) xs) (λ x. (key x ≡ n) × (test x ≡ true))
+  row_passes test [] all = tt
+  row_passes test (x ∷ xs) all =
+      let parts = and_parts (test x) (list_all test xs) all in
+      go (eqb (key x) n) refl parts.0 (row_passes test xs parts.1)
+    where
+      go : (b : Bool) → eqb (key x) n ≡ b → test x ≡ true → IfSome (find (λ x. eqb (key x) n) xs) (λ x. (key x ≡ n) × (test x ≡ true)) → IfSome (cond b (Some x) (find (λ x. eqb (key x) n) xs)) (λ x. (key x ≡ n) × (test x ≡ true))
+      go true e here later = (eqb-true (key x) n e, here)
+      go false e here later = later
 
-  -- it is not
-  pub row_passed : ((get_or t i (0, 0)).0 ≡ x → ⊥) → row (drop i t) x ≡ row (drop (i + 1) t) x
-  row_passed ne =
-      at_drop_more (λ (ps : List (ℕ × ℕ)). row ps x) t i (0, 0) within
-      ∙ cond-false _ (get_or t i (0, 0)).1 (row (drop (i + 1) t) x) (ne_eqb _ x ne)
-
--- every row passes a test
-abbrev pub every : (ℕ × ℕ → Bool) → List (ℕ × ℕ) → Bool
-every test [] = true
-every test (p ∷ ps) = test p && every test ps
-
--- what the row of a number says: it is listed and passes the test, or it is not listed and stands for 0
-pub row_tested : (test : ℕ × ℕ → Bool) (t : List (ℕ × ℕ)) → every test t ≡ true → (x : ℕ) → 0 < row t x → test (x, row t x) ≡ true
-row_tested test [] all x h = absurd (omega arith)
-row_tested test (p ∷ ps) all x h = go (eqb p.0 x) refl (row_tested test ps parts.1 x)
-  where
-    parts : (test p ≡ true) × (every test ps ≡ true)
-    parts = and_parts (test p) (every test ps) all
-
-    go : (b : Bool) → eqb p.0 x ≡ b → (0 < row ps x → test (x, row ps x) ≡ true) → test (x, row (p ∷ ps) x) ≡ true
-    go true e later =
-        let is : row (p ∷ ps) x ≡ p.1 = cond-true _ p.1 (row ps x) e in
-        subst (λ (n : ℕ). test (x, n) ≡ true) (sym is) (subst (λ (n : ℕ). test (n, p.1) ≡ true) (eqb-true p.0 x e) parts.0)
-    go false e later =
-        let is : row (p ∷ ps) x ≡ row ps x = cond-false _ p.1 (row ps x) e in
-        subst (λ (n : ℕ). test (x, n) ≡ true) (sym is) (later (subst (λ (n : ℕ). 0 < n) is h))
-
--- no row stands for more than b
-pub row_most : (b : ℕ) (t : List (ℕ × ℕ)) → every (λ p. leb p.1 b) t ≡ true → (x : ℕ) → row t x ≤ b
-row_most b t all x = elim (cases_lt 0 (row t x)) [
-  | inl h ↦ leb-true _ b (row_tested (λ p. leb p.1 b) t all x h)
-  | inr h ↦ omega arith
-]
-
-abbrev in_range : (low high least most : ℕ) → ℕ × ℕ → Bool
-in_range low high least most p = (leb low p.0 && leb p.0 high) && (leb least p.1 && leb p.1 most)
+  -- what is listed in no row above b
+  pub row_most : (value : X → ℕ) (b : ℕ) (xs : List X) → list_all (λ x. leb (value x) b) xs ≡ true → unwrap_or (option_map value (find (λ x. eqb (key x) n) xs)) 0 ≤ b
+  row_most value b xs all = go (find (λ x. eqb (key x) n) xs) (row_passes (λ x. leb (value x) b) xs all)
+    where
+      go : (o : Option X) → IfSome o (λ x. (key x ≡ n) × (leb (value x) b ≡ true)) → unwrap_or (option_map value o) 0 ≤ b
+      go None h = omega arith
+      go (Some x) h = leb-true (value x) b h.1
 
 -- a listed number and what it stands for
 pub record Range (a b least most x v : ℕ) : Type 0 where
@@ -56,48 +34,82 @@ pub record Range (a b least most x v : ℕ) : Type 0 where
   pub worth : least ≤ v
   pub bound : v ≤ most
 
-range : (low high least most x v : ℕ) → in_range low high least most (x, v) ≡ true → Range low high least most x v
-range low high least most x v h =
-    let a = and_parts (leb low x && leb x high) (leb least v && leb v most) h in
-    let b = and_parts (leb low x) (leb x high) a.0 in
-    let c = and_parts (leb least v) (leb v most) a.1 in
-    record { low = leb-true _ _ b.0; high = leb-true _ _ b.1; worth = leb-true _ _ c.0; bound = leb-true _ _ c.1 }
+abbrev in_range : (a b least most x v : ℕ) → Bool
+in_range a b least most x v = (leb a x && leb x b) && (leb least v && leb v most)
 
-pub steel_range : (steel : ℕ) → 0 < fu steel → Range 235 460 360 540 steel (fu steel)
-unfolding fu
-steel_range steel h = range 235 460 360 540 steel _ (row_tested (in_range 235 460 360 540) strengths refl steel h)
+range : (a b least most x v : ℕ) → in_range a b least most x v ≡ true → Range a b least most x v
+range a b least most x v h =
+    let p = and_parts (leb a x && leb x b) (leb least v && leb v most) h in
+    let q = and_parts (leb a x) (leb x b) p.0 in
+    let r = and_parts (leb least v) (leb v most) p.1 in
+    record { low = leb-true _ _ q.0; high = leb-true _ _ q.1; worth = leb-true _ _ r.0; bound = leb-true _ _ r.1 }
 
-pub class_range : (grade : ℕ) → 0 < fub grade → Range 46 109 400 1000 grade (fub grade)
-unfolding fub
-class_range grade h = range 46 109 400 1000 grade _ (row_tested (in_range 46 109 400 1000) bolt_strengths refl grade h)
+-- of a number that is listed, in a table whose rows lie within bounds
+row_range : {X : Type 0} (key value : X → ℕ) (a b least most : ℕ) (xs : List X) → list_all (λ x. in_range a b least most (key x) (value x)) xs ≡ true →
+    (n : ℕ) → is_some (find (λ x. eqb (key x) n) xs) ≡ true → Range a b least most n (unwrap_or (option_map value (find (λ x. eqb (key x) n) xs)) 0)
+row_range {X} key value a b least most xs all n listed =
+    go (find (λ x. eqb (key x) n) xs) listed (row_passes key n (λ x. in_range a b least most (key x) (value x)) xs all)
+  where
+    go : (o : Option X) → is_some o ≡ true → IfSome o (λ x. (key x ≡ n) × (in_range a b least most (key x) (value x) ≡ true)) → Range a b least most n (unwrap_or (option_map value o) 0)
+    go None e h = cc
+    go (Some x) e h = subst (λ (k : ℕ). Range a b least most k (value x)) h.0 (range a b least most (key x) (value x) h.1)
 
-pub bolt_range : (bolt : ℕ) → 0 < hole_of bolt → Range 12 30 13 33 bolt (hole_of bolt)
-unfolding hole_of
-bolt_range bolt h = range 12 30 13 33 bolt _ (row_tested (in_range 12 30 13 33) holes refl bolt h)
+pub steel_range : (x : ℕ) → steel x ≡ true → Range 235 460 360 540 x (fu x)
+unfolding steel steel_row fu
+steel_range x h = row_range (λ s. s.fy) (λ s. s.fu) 235 460 360 540 steels refl x h
 
-pub fu_most : (steel : ℕ) → fu steel ≤ 540
-unfolding fu
-fu_most steel = row_most 540 strengths refl steel
+pub class_range : (x : ℕ) → bolt_class x ≡ true → Range 46 109 400 1000 x (fub x)
+unfolding bolt_class class_row fub
+class_range x h = row_range (λ b. b.grade) (λ b. b.fub) 46 109 400 1000 bolt_classes refl x h
 
-pub fub_most : (grade : ℕ) → fub grade ≤ 1000
-unfolding fub
-fub_most grade = row_most 1000 bolt_strengths refl grade
+pub bolt_range : (x : ℕ) → bolt_size x ≡ true → Range 12 30 13 33 x (hole_of x)
+unfolding bolt_size size_row hole_of
+bolt_range x h = row_range (λ b. b.diameter) (λ b. b.hole) 12 30 13 33 bolt_sizes refl x h
+
+-- no number stands for more
+pub fu_most : (x : ℕ) → fu x ≤ 540
+unfolding fu steel_row
+fu_most x = row_most (λ s. s.fy) x (λ s. s.fu) 540 steels refl
+
+pub weld_factor_most : (x : ℕ) → weld_factor x ≤ 100
+unfolding weld_factor steel_row
+weld_factor_most x = row_most (λ s. s.fy) x (λ s. s.weld_factor) 100 steels refl
+
+pub fub_most : (x : ℕ) → fub x ≤ 1000
+unfolding fub class_row
+fub_most x = row_most (λ b. b.grade) x (λ b. b.fub) 1000 bolt_classes refl
+
+pub hole_most : (x : ℕ) → hole_of x ≤ 33
+unfolding hole_of size_row
+hole_most x = row_most (λ b. b.diameter) x (λ b. b.hole) 33 bolt_sizes refl
+
+pub shank_most : (x : ℕ) → shank_of x ≤ 707
+unfolding shank_of size_row
+shank_most x = row_most (λ b. b.diameter) x (λ b. b.shank_area) 707 bolt_sizes refl
+
+pub stress_most : (x : ℕ) → stress_of x ≤ 561
+unfolding stress_of size_row
+stress_most x = row_most (λ b. b.diameter) x (λ b. b.stress_area) 561 bolt_sizes refl
 
 -- the weld factor of a steel times its yield strength
-row_product : (b : ℕ) (t : List (ℕ × ℕ)) → every (λ p. leb (p.1 * p.0) b) t ≡ true → (x : ℕ) → row t x * x ≤ b
-row_product b t all x = elim (cases_lt 0 (row t x)) [
-  | inl h ↦ leb-true _ b (row_tested (λ p. leb (p.1 * p.0) b) t all x h)
-  | inr h ↦ let z : row t x ≡ 0 = omega arith in subst (λ (n : ℕ). n * x ≤ b) (sym z) (omega arith)
-]
-
-pub weld_most : (steel : ℕ) → weld_factor steel * steel ≤ 46000
-unfolding weld_factor
-weld_most steel = row_product 46000 weld_factors refl steel
+pub weld_most : (x : ℕ) → weld_factor x * x ≤ 46000
+unfolding weld_factor steel_row
+weld_most x = go (find (λ s. eqb s.fy x) steels) (row_passes (λ s. s.fy) x (λ s. leb (s.weld_factor * s.fy) 46000) steels refl)
+  where
+    go : (o : Option Steel) → IfSome o (λ s. (s.fy ≡ x) × (leb (s.weld_factor * s.fy) 46000 ≡ true)) → unwrap_or (option_map (λ s. s.weld_factor) o) 0 * x ≤ 46000
+    go None h = omega arith
+    go (Some s) h = subst (λ (k : ℕ). s.weld_factor * k ≤ 46000) h.0 (leb-true _ 46000 h.1)
 
 -- the area that a listed bolt is sheared on, and its shear factor
-pub area_range : (bolt plane : ℕ) → 0 < hole_of bolt → (84 ≤ area_of bolt plane) × (area_of bolt plane ≤ 707)
-unfolding hole_of shank_of stress_of
-area_range bolt plane h = (grind (arith, nat_tests), grind (arith, nat_tests))
+pub area_range : (bolt plane : ℕ) → bolt_size bolt ≡ true → (84 ≤ area_of bolt plane) × (area_of bolt plane ≤ 707)
+unfolding bolt_size size_row shank_of stress_of
+area_range bolt plane h =
+    let shank = row_range (λ b. b.diameter) (λ b. b.shank_area) 12 30 84 707 bolt_sizes refl bolt h in
+    let stress = row_range (λ b. b.diameter) (λ b. b.stress_area) 12 30 84 707 bolt_sizes refl bolt h in
+    cond_both (eqb plane 0) (shank_of bolt) (stress_of bolt) (λ n. (84 ≤ n) × (n ≤ 707)) (λ _. (shank.worth, shank.bound)) (λ _. (stress.worth, stress.bound))
 
 pub shear_range : (grade plane : ℕ) → (5 ≤ shear_of grade plane) × (shear_of grade plane ≤ 6)
 shear_range grade plane = (grind (arith, nat_tests), grind (arith, nat_tests))
+
+-- the bounds of what the tables list
+pub ruleset listed_bounds = (fu_most, weld_factor_most, fub_most, hole_most, shank_most, stress_most)

@@ -1,28 +1,22 @@
 -- Plain numbers: the depth of a plate, what its holes leave, and that they leave something; the two sides of the weld rule.
-use Rattle.std.proofs.Common.{◌≡◌, ℕ, ◌+◌, ◌-◌, ◌*◌, ◌≤◌, ltb, ap₂, mul-le-mul, mul-le-mul_left, arith}
+use Rattle.std.proofs.Common.{◌≡◌, ℕ, ◌+◌, ◌-◌, ◌*◌, ◌≤◌, ltb, ap₂, mul-le-mul, mul-le-mul_left, mul-le-mul_right, arith}
 
 module _ (rows d e p : ℕ) (lo : 2 ≤ rows) (end : 12 * d ≤ 10 * e) (pitch : 22 * d ≤ 10 * p) where
   -- the holes of a column fit the plate's depth
   pub holes_fit : rows * d ≤ 2 * e + (rows - 1) * p
   holes_fit =
       let g = mul-le-mul_left (rows - 1) pitch in
-      let r : rows * d ≤ (rows - 1) * d + d = (let n = rows - 1 in let is : rows ≤ (rows - 1) + 1 = omega arith in let m = mul-le-mul is (le d) in omega arith) in
-      omega arith
-    where
-      le : (n : ℕ) → n ≤ n
-      le n = omega arith
+      let is : rows ≤ (rows - 1) + 1 = omega arith in
+      omega (arith, mul-le-mul_right d is)
 
   -- and those of a torn block its two sides
   pub torn_fit : (2 * rows - 1) * d + 2 * e ≤ 2 * (2 * e + (rows - 1) * p)
   torn_fit =
       let g = mul-le-mul_left (rows - 1) pitch in
       let is : 2 * rows - 1 ≤ 2 * (rows - 1) + 1 = omega arith in
-      let m = mul-le-mul is (le d) in
-      omega arith
-    where
-      le : (n : ℕ) → n ≤ n
-      le n = omega arith
+      omega (arith, mul-le-mul_right d is)
 
+-- a plate is at most so deep
 pub depth_most : (rows e p : ℕ) → rows ≤ 10 → e ≤ 150 → p ≤ 200 → 2 * e + (rows - 1) * p ≤ 2100
 depth_most rows e p r h k =
     let n : rows - 1 ≤ 9 = omega arith in
@@ -32,20 +26,3 @@ depth_most rows e p r h k =
 -- the two sides of the weld's rule are squares
 pub weld_squares : (t b fy a fu : ℕ) → ltb (3 * (t * (b * fy)) * (t * (b * fy))) (200 * a * fu * (200 * a * fu)) ≡ ltb (3 * t * t * b * b * fy * fy) (40000 * a * a * fu * fu)
 weld_squares t b fy a fu = ap₂ ltb (omega arith) (omega arith)
-
--- the holes of a torn block fit the sides that a beam web gives it
-pub web_torn_fit : (rows d e p : ℕ) → 2 ≤ rows → 12 * d ≤ 10 * e → 22 * d ≤ 10 * p → (2 * rows - 1) * d ≤ 2 * e + 2 * (rows - 1) * p
-web_torn_fit rows d e p lo end pitch =
-    let g = mul-le-mul_left (rows - 1) pitch in
-    let is : 2 * rows - 1 ≤ 2 * (rows - 1) + 1 = omega arith in
-    let m = mul-le-mul is (le d) in
-    omega arith
-  where
-    le : (n : ℕ) → n ≤ n
-    le n = omega arith
-
-pub web_torn_most : (rows e p : ℕ) → rows ≤ 10 → e ≤ 150 → p ≤ 200 → 2 * e + 2 * (rows - 1) * p ≤ 4200
-web_torn_most rows e p r h k =
-    let n : rows - 1 ≤ 9 = omega arith in
-    let m = mul-le-mul n k in
-    omega arith

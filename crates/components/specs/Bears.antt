@@ -4,6 +4,7 @@ use Rattle.resistance.specs.Fractions.{◌÷◌, ◌⊗◌, smaller}
 use Rattle.resistance.specs.declared.ratio.Ratio.{Ratio}
 use Rattle.components.specs.Tabled.{fu, fub, area_of, shear_of}
 use Rattle.components.specs.declared.bearing.Bearing.{Bearing}
+use Rattle.components.specs.declared.bolts.Bolts.{Bolts}
 
 -- k(e) = 2.8·e/d₀ − 1.7: of a distance across the force
 abbrev pub k : (d₀ e : ℕ) → Ratio
@@ -53,6 +54,14 @@ ultimate x = x ⊗ (5 ÷ 4)
 abbrev pub ultimate_of : Bearing → Ratio → Ratio → Option Ratio
 ultimate_of b x α = cond (workable b x α) (Some (ultimate (bear_of b x α))) None
 
+-- m bolts on a part of thickness t and a steel
+abbrev pub on_part : Bolts → (m t steel : ℕ) → Bearing
+on_part b m t steel = record { bolts = m; bolt = b.bolt; grade = b.grade; steel = steel; thickness = t }
+
+-- n·m·s·fub·A over a divisor: m bolts in shear, with the factor n of a sheet
+abbrev pub shear_by : (n divisor m bolt grade plane : ℕ) → Ratio
+shear_by n divisor m bolt grade plane = (n * m * shear_of grade plane * fub grade * area_of bolt plane) ÷ divisor
+
 -- T = 2·m·s·fub·A/25: all bolts in shear
 abbrev pub shear_total : (m bolt grade plane : ℕ) → Ratio
-shear_total m bolt grade plane = (2 * m * shear_of grade plane * fub grade * area_of bolt plane) ÷ 25
+shear_total m bolt grade plane = shear_by 2 25 m bolt grade plane

@@ -1,4 +1,5 @@
 pub mod Bears
 pub mod Columns
+pub mod Parts
 pub mod Tabled
 pub mod Welds

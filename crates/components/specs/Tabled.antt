@@ -1,52 +1,83 @@
--- The tables of steels, bolts and bolt classes: pairs of a number and what it stands for.
-use Rattle.std.specs.Prelude.{ℕ, Bool, cond, ◌&&◌, ◌||◌, List, [], ◌∷◌, ◌==◌, nat_lt}
+-- The tables of steels, bolts and bolt classes: a row for each, found by the number that it goes by.
+use Rattle.std.specs.Prelude.{ℕ, Bool, cond, ◌&&◌, ◌||◌, List, [], ◌∷◌, ◌==◌, Option, is_some, option_map, unwrap_or}
+use Rattle.std.specs.List.{find}
+use Rattle.components.specs.declared.tables.Steel.{Steel}
+use Rattle.components.specs.declared.tables.BoltSize.{BoltSize}
+use Rattle.components.specs.declared.tables.BoltClass.{BoltClass}
 
--- what a number stands for in a table, and 0 where the table does not list it
-abbrev pub row : List (ℕ × ℕ) → ℕ → ℕ
-row [] x = 0
-row (p ∷ ps) x = cond (p.0 == x) p.1 (row ps x)
+-- steels by their fy, with fu, N/mm², and the weld factor b, hundredths
+abbrev pub steels : List Steel
+steels =
+    record { fy = 235; fu = 360; weld_factor = 80 }
+    ∷ record { fy = 275; fu = 430; weld_factor = 85 }
+    ∷ record { fy = 355; fu = 510; weld_factor = 90 }
+    ∷ record { fy = 420; fu = 520; weld_factor = 100 }
+    ∷ record { fy = 460; fu = 540; weld_factor = 100 }
+    ∷ []
 
--- fu of a steel, which goes by its fy, N/mm²
-abbrev pub strengths : List (ℕ × ℕ)
-strengths = (235, 360) ∷ (275, 430) ∷ (355, 510) ∷ (420, 520) ∷ (460, 540) ∷ []
+-- bolts by their diameter d, mm, with the hole d₀, mm, the area of the shank and the stress area, mm²
+abbrev pub bolt_sizes : List BoltSize
+bolt_sizes =
+    record { diameter = 12; hole = 13; shank_area = 113; stress_area = 84 }
+    ∷ record { diameter = 14; hole = 15; shank_area = 154; stress_area = 115 }
+    ∷ record { diameter = 16; hole = 18; shank_area = 201; stress_area = 157 }
+    ∷ record { diameter = 18; hole = 20; shank_area = 254; stress_area = 192 }
+    ∷ record { diameter = 20; hole = 22; shank_area = 314; stress_area = 245 }
+    ∷ record { diameter = 22; hole = 24; shank_area = 380; stress_area = 303 }
+    ∷ record { diameter = 24; hole = 26; shank_area = 452; stress_area = 353 }
+    ∷ record { diameter = 27; hole = 30; shank_area = 573; stress_area = 459 }
+    ∷ record { diameter = 30; hole = 33; shank_area = 707; stress_area = 561 }
+    ∷ []
+
+-- bolt classes, with fub, N/mm²
+abbrev pub bolt_classes : List BoltClass
+bolt_classes =
+    record { grade = 46; fub = 400 }
+    ∷ record { grade = 56; fub = 500 }
+    ∷ record { grade = 68; fub = 600 }
+    ∷ record { grade = 88; fub = 800 }
+    ∷ record { grade = 109; fub = 1000 }
+    ∷ []
+
+-- the row of a number, if its table lists it
+unfoldable pub steel_row : ℕ → Option Steel
+steel_row fy = find (λ s. s.fy == fy) steels
+
+unfoldable pub size_row : ℕ → Option BoltSize
+size_row diameter = find (λ b. b.diameter == diameter) bolt_sizes
+
+unfoldable pub class_row : ℕ → Option BoltClass
+class_row grade = find (λ b. b.grade == grade) bolt_classes
+
+-- what a row says, and 0 where the table does not list the number: fu of a steel, which goes by its fy, N/mm²
+unfoldable pub fu : ℕ → ℕ
+unfolding steel_row
+fu steel = unwrap_or (option_map (λ s. s.fu) (steel_row steel)) 0
 
 -- the weld factor b of a steel, hundredths
-abbrev pub weld_factors : List (ℕ × ℕ)
-weld_factors = (235, 80) ∷ (275, 85) ∷ (355, 90) ∷ (420, 100) ∷ (460, 100) ∷ []
+unfoldable pub weld_factor : ℕ → ℕ
+unfolding steel_row
+weld_factor steel = unwrap_or (option_map (λ s. s.weld_factor) (steel_row steel)) 0
 
 -- fub of a bolt class, N/mm²
-abbrev pub bolt_strengths : List (ℕ × ℕ)
-bolt_strengths = (46, 400) ∷ (56, 500) ∷ (68, 600) ∷ (88, 800) ∷ (109, 1000) ∷ []
+unfoldable pub fub : ℕ → ℕ
+unfolding class_row
+fub grade = unwrap_or (option_map (λ b. b.fub) (class_row grade)) 0
 
 -- the hole d₀ of a bolt, mm
-abbrev pub holes : List (ℕ × ℕ)
-holes = (12, 13) ∷ (14, 15) ∷ (16, 18) ∷ (18, 20) ∷ (20, 22) ∷ (22, 24) ∷ (24, 26) ∷ (27, 30) ∷ (30, 33) ∷ []
+unfoldable pub hole_of : ℕ → ℕ
+unfolding size_row
+hole_of bolt = unwrap_or (option_map (λ b. b.hole) (size_row bolt)) 0
 
 -- the area of a bolt's shank, mm²
-abbrev pub shank_areas : List (ℕ × ℕ)
-shank_areas = (12, 113) ∷ (14, 154) ∷ (16, 201) ∷ (18, 254) ∷ (20, 314) ∷ (22, 380) ∷ (24, 452) ∷ (27, 573) ∷ (30, 707) ∷ []
+unfoldable pub shank_of : ℕ → ℕ
+unfolding size_row
+shank_of bolt = unwrap_or (option_map (λ b. b.shank_area) (size_row bolt)) 0
 
 -- the stress area of a bolt, mm²
-abbrev pub stress_areas : List (ℕ × ℕ)
-stress_areas = (12, 84) ∷ (14, 115) ∷ (16, 157) ∷ (18, 192) ∷ (20, 245) ∷ (22, 303) ∷ (24, 353) ∷ (27, 459) ∷ (30, 561) ∷ []
-
-unfoldable pub fu : ℕ → ℕ
-fu steel = row strengths steel
-
-unfoldable pub weld_factor : ℕ → ℕ
-weld_factor steel = row weld_factors steel
-
-unfoldable pub fub : ℕ → ℕ
-fub grade = row bolt_strengths grade
-
-unfoldable pub hole_of : ℕ → ℕ
-hole_of bolt = row holes bolt
-
-unfoldable pub shank_of : ℕ → ℕ
-shank_of bolt = row shank_areas bolt
-
 unfoldable pub stress_of : ℕ → ℕ
-stress_of bolt = row stress_areas bolt
+unfolding size_row
+stress_of bolt = unwrap_or (option_map (λ b. b.stress_area) (size_row bolt)) 0
 
 -- A: the area that a bolt is sheared on, the shank's for plane 0, otherwise the stress area
 abbrev pub area_of : (bolt plane : ℕ) → ℕ
@@ -57,11 +88,11 @@ abbrev pub shear_of : (grade plane : ℕ) → ℕ
 shear_of grade plane = cond ((grade == 68 || grade == 109) && plane == 1) 5 6
 
 -- the tables list a steel, a bolt, a bolt class
-abbrev pub steel : ℕ → Bool
-steel x = nat_lt 0 (fu x)
+unfoldable pub steel : ℕ → Bool
+steel x = is_some (steel_row x)
 
-abbrev pub bolt_size : ℕ → Bool
-bolt_size x = nat_lt 0 (hole_of x)
+unfoldable pub bolt_size : ℕ → Bool
+bolt_size x = is_some (size_row x)
 
-abbrev pub bolt_class : ℕ → Bool
-bolt_class x = nat_lt 0 (fub x)
+unfoldable pub bolt_class : ℕ → Bool
+bolt_class x = is_some (class_row x)

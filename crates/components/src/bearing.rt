@@ -1,9 +1,9 @@
 // Bolts in bearing: the factors of the distances round a hole, and the total of all bolts as an exact fraction.
 ghost use Rattle.std.specs.Prelude.{◌≡◌, ◌*◌, ◌^◌, ◌<◌, ◌≤◌};
 ghost use Rattle.resistance.specs.Fractions.{◌⊗◌};
-ghost use Rattle.components.specs.Bears.{k, k', u, w, workable, total_of, ultimate_of, shear_total};
+ghost use Rattle.components.specs.Bears.{k, k', u, w, workable, total_of, ultimate_of};
 
-use crate::tables::{bolt_strength, shear_area, shear_factor, ultimate_strength};
+use crate::tables::{bolt_strength, ultimate_strength};
 use resistance::ratio::Ratio;
 
 // So many bolts of one size and class, bearing on a part of one steel and thickness (tenths of a mm).
@@ -16,8 +16,15 @@ pub struct Bearing {
     pub thickness: u32,
 }
 
+// The factors of a load: k of the distances across it, α of those along it.
+#[derive(Clone, Copy, PartialEq, Eq, Debug)]
+pub struct Factors {
+    pub k: Ratio,
+    pub alpha: Ratio,
+}
+
 // No k exceeds 2.5.
-const MOST: Ratio = Ratio { over: 5, under: 2 };
+pub const MOST: Ratio = Ratio { over: 5, under: 2 };
 
 // The partial factor of bearing is taken off a total by this.
 const FIVE_QUARTERS: Ratio = Ratio { over: 5, under: 4 };
@@ -78,24 +85,24 @@ fn times(x: Ratio, y: Ratio) -> Ratio
 
 impl Bearing {
     // Whether the numbers are small enough for the total to fit: those of every sheet are.
-    fn is_workable(&self, k: Ratio, a: Ratio) -> bool
-        ensures { result ≡ workable self.now k a }
+    fn is_workable(&self, factors: Factors) -> bool
+        ensures { result ≡ workable self.now factors.k factors.alpha }
     {
         self.bolts <= 20
             && self.bolt <= 30
             && self.thickness <= 400
-            && k.over <= 10000
-            && k.under <= 10000
-            && a.over <= 10000
-            && a.under <= 10000
+            && factors.k.over <= 10000
+            && factors.k.under <= 10000
+            && factors.alpha.over <= 10000
+            && factors.alpha.under <= 10000
     }
 
     // Bear(k, α) = 2·m·k·α·fu·d·t/25 of all bolts, k at most 2.5 and α at most the smaller of fub/fu and 1;
     // `None` where a number lies far outside any sheet.
-    pub fn total(&self, k: Ratio, a: Ratio) -> Option<Ratio>
-        ensures { result ≡ total_of self.now k a }
+    pub fn total(&self, factors: Factors) -> Option<Ratio>
+        ensures { result ≡ total_of self.now factors.k factors.alpha }
     {
-        if !self.is_workable(k, a) {
+        if !self.is_workable(factors) {
             return None;
         }
         let fu = ultimate_strength(self.steel) as u64;
@@ -109,27 +116,15 @@ impl Bearing {
             over: 2 * self.bolts as u64 * fu * self.bolt as u64 * self.thickness as u64,
             under: 25,
         };
-        Some(times(times(all, k.lesser(MOST)), a.lesser(cap)))
+        let k = factors.k.lesser(MOST);
+        Some(times(times(all, k), factors.alpha.lesser(cap)))
     }
 
     // The same without the partial factor: 5/4 of the exact total.
-    pub fn ultimate(&self, k: Ratio, a: Ratio) -> Option<Ratio>
-        ensures { result ≡ ultimate_of self.now k a }
+    pub fn ultimate(&self, factors: Factors) -> Option<Ratio>
+        ensures { result ≡ ultimate_of self.now factors.k factors.alpha }
     {
-        let total = self.total(k, a)?;
+        let total = self.total(factors)?;
         Some(times(total, FIVE_QUARTERS))
-    }
-}
-
-// T = 2·m·s·fub·A/25: all bolts in shear.
-pub fn shear_of_bolts(bolts: u32, bolt: u32, grade: u32, plane: u32) -> Ratio
-    ensures { result ≡ shear_total bolts bolt grade plane }
-{
-    let s = shear_factor(grade, plane) as u64;
-    let fub = bolt_strength(grade) as u64;
-    let area = shear_area(bolt, plane) as u64;
-    Ratio {
-        over: 2 * bolts as u64 * s * fub * area,
-        under: 25,
     }
 }

@@ -1,4 +1,12 @@
 // The bolts of a joint, as a card gives them.
+ghost use Rattle.std.specs.Prelude.{◌≡◌};
+ghost use Rattle.components.specs.Bears.{on_part, shear_by};
+
+use crate::bearing::Bearing;
+use crate::part::Part;
+use crate::tables::{bolt_strength, shear_area, shear_factor};
+use resistance::ratio::Ratio;
+
 #[derive(Clone, Copy, PartialEq, Eq, Debug)]
 pub struct Bolts {
     // nominal diameter, mm
@@ -9,4 +17,32 @@ pub struct Bolts {
     pub plane: u32,
     // bolts in a column
     pub rows: u32,
+}
+
+impl Bolts {
+    // So many of these bolts, bearing on a part.
+    pub fn on_part(self, count: u32, part: Part) -> Bearing
+        ensures { result ≡ on_part self count part.thickness part.steel }
+    {
+        Bearing {
+            bolts: count,
+            bolt: self.bolt,
+            grade: self.grade,
+            steel: part.steel,
+            thickness: part.thickness,
+        }
+    }
+
+    // n·m·s·fub·A over a divisor: m of these bolts in shear, with the factor n and the divisor of a sheet.
+    pub fn in_shear(self, count: u32, factor: u8, divisor: u64) -> Ratio
+        ensures { result ≡ shear_by factor divisor count self.bolt self.grade self.plane }
+    {
+        let s = shear_factor(self.grade, self.plane) as u64;
+        let fub = bolt_strength(self.grade) as u64;
+        let area = shear_area(self.bolt, self.plane) as u64;
+        Ratio {
+            over: factor as u64 * count as u64 * s * fub * area,
+            under: divisor,
+        }
+    }
 }

@@ -19,26 +19,26 @@ pub struct Column {
 
 impl Column {
     // hp: the depth of the plate.
-    pub fn depth(&self) -> u64
+    pub fn depth(&self) -> u32
         ensures value { result ≡ depth_by self.now.rows self.now.e1 self.now.p1 }
         ensures bound { result ≤ 2100 }
     {
-        2 * self.e1 as u64 + (self.rows as u64 - 1) * self.p1 as u64
+        2 * self.e1 + (self.rows - 1) * self.p1
     }
 
     // net: what the holes leave of the depth.
-    pub fn net_depth(&self) -> u64
+    pub fn net_depth(&self) -> u32
         ensures value { result ≡ net_by self.now.rows self.now.hole self.now.e1 self.now.p1 }
         ensures bound { result ≤ 2100 }
     {
-        self.depth() - self.rows as u64 * self.hole as u64
+        self.depth() - self.rows * self.hole
     }
 
     // G: twice the net length that a torn block is sheared on.
-    pub fn torn_length(&self) -> u64
+    pub fn torn_length(&self) -> u32
         ensures value { result ≡ torn_by self.now.rows self.now.hole self.now.e1 self.now.p1 }
         ensures bound { result ≤ 4200 }
     {
-        2 * self.depth() - 2 * self.e1 as u64 - (2 * self.rows as u64 - 1) * self.hole as u64
+        2 * self.depth() - 2 * self.e1 - (2 * self.rows - 1) * self.hole
     }
 }

@@ -1,64 +1,179 @@
 // The tables of steels, bolts and bolt classes. A number that a table does not list stands for 0.
+#![tactic(auto, using(crate::proofs::Listed::listed_bounds), unfolding(crate::specs::Tabled::steel_row, crate::specs::Tabled::size_row, crate::specs::Tabled::class_row, crate::specs::Tabled::fu, crate::specs::Tabled::weld_factor, crate::specs::Tabled::fub, crate::specs::Tabled::hole_of, crate::specs::Tabled::shank_of, crate::specs::Tabled::stress_of, crate::specs::Tabled::steel, crate::specs::Tabled::bolt_size, crate::specs::Tabled::bolt_class))]
+
 ghost use Rattle.std.specs.Prelude.{◌≡◌, ◌≤◌};
-ghost use Rattle.components.specs.Tabled.{fu, weld_factor, hole_of, shank_of, stress_of, area_of, fub, shear_of, steel, bolt_size, bolt_class};
+ghost use Rattle.components.specs.Tabled.{steel_row, size_row, class_row, fu, weld_factor, hole_of, shank_of, stress_of, area_of, fub, shear_of, steel, bolt_size, bolt_class};
 
-use crate::rows::row_of;
+// A steel goes by its yield strength.
+#[derive(Clone, Copy)]
+pub(crate) struct Steel {
+    // yield strength, N/mm²
+    pub(crate) fy: u32,
+    // ultimate strength, N/mm²
+    pub(crate) fu: u32,
+    // correlation factor of fillet welds, hundredths
+    pub(crate) weld_factor: u32,
+}
 
-// A steel goes by its yield strength fy, N/mm².
-const ULTIMATE_STRENGTHS: [(u32, u32); 5] = [
-    (235, 360),
-    (275, 430),
-    (355, 510),
-    (420, 520),
-    (460, 540),
+// A bolt goes by its nominal diameter.
+#[derive(Clone, Copy)]
+pub(crate) struct BoltSize {
+    // nominal diameter, mm
+    pub(crate) diameter: u32,
+    // diameter of its hole, mm
+    pub(crate) hole: u32,
+    // gross area of the shank, mm²
+    pub(crate) shank_area: u32,
+    // tensile stress area, mm²
+    pub(crate) stress_area: u32,
+}
+
+// A bolt class, as 88 for 8.8.
+#[derive(Clone, Copy)]
+pub(crate) struct BoltClass {
+    pub(crate) grade: u32,
+    // ultimate strength, N/mm²
+    pub(crate) fub: u32,
+}
+
+const STEELS: [Steel; 5] = [
+    Steel {
+        fy: 235,
+        fu: 360,
+        weld_factor: 80,
+    },
+    Steel {
+        fy: 275,
+        fu: 430,
+        weld_factor: 85,
+    },
+    Steel {
+        fy: 355,
+        fu: 510,
+        weld_factor: 90,
+    },
+    Steel {
+        fy: 420,
+        fu: 520,
+        weld_factor: 100,
+    },
+    Steel {
+        fy: 460,
+        fu: 540,
+        weld_factor: 100,
+    },
 ];
 
-const WELD_FACTORS: [(u32, u32); 5] = [(235, 80), (275, 85), (355, 90), (420, 100), (460, 100)];
-
-const BOLT_STRENGTHS: [(u32, u32); 5] = [(46, 400), (56, 500), (68, 600), (88, 800), (109, 1000)];
-
-const HOLES: [(u32, u32); 9] = [
-    (12, 13),
-    (14, 15),
-    (16, 18),
-    (18, 20),
-    (20, 22),
-    (22, 24),
-    (24, 26),
-    (27, 30),
-    (30, 33),
+const BOLT_SIZES: [BoltSize; 9] = [
+    BoltSize {
+        diameter: 12,
+        hole: 13,
+        shank_area: 113,
+        stress_area: 84,
+    },
+    BoltSize {
+        diameter: 14,
+        hole: 15,
+        shank_area: 154,
+        stress_area: 115,
+    },
+    BoltSize {
+        diameter: 16,
+        hole: 18,
+        shank_area: 201,
+        stress_area: 157,
+    },
+    BoltSize {
+        diameter: 18,
+        hole: 20,
+        shank_area: 254,
+        stress_area: 192,
+    },
+    BoltSize {
+        diameter: 20,
+        hole: 22,
+        shank_area: 314,
+        stress_area: 245,
+    },
+    BoltSize {
+        diameter: 22,
+        hole: 24,
+        shank_area: 380,
+        stress_area: 303,
+    },
+    BoltSize {
+        diameter: 24,
+        hole: 26,
+        shank_area: 452,
+        stress_area: 353,
+    },
+    BoltSize {
+        diameter: 27,
+        hole: 30,
+        shank_area: 573,
+        stress_area: 459,
+    },
+    BoltSize {
+        diameter: 30,
+        hole: 33,
+        shank_area: 707,
+        stress_area: 561,
+    },
 ];
 
-const SHANK_AREAS: [(u32, u32); 9] = [
-    (12, 113),
-    (14, 154),
-    (16, 201),
-    (18, 254),
-    (20, 314),
-    (22, 380),
-    (24, 452),
-    (27, 573),
-    (30, 707),
+const BOLT_CLASSES: [BoltClass; 5] = [
+    BoltClass {
+        grade: 46,
+        fub: 400,
+    },
+    BoltClass {
+        grade: 56,
+        fub: 500,
+    },
+    BoltClass {
+        grade: 68,
+        fub: 600,
+    },
+    BoltClass {
+        grade: 88,
+        fub: 800,
+    },
+    BoltClass {
+        grade: 109,
+        fub: 1000,
+    },
 ];
 
-const STRESS_AREAS: [(u32, u32); 9] = [
-    (12, 84),
-    (14, 115),
-    (16, 157),
-    (18, 192),
-    (20, 245),
-    (22, 303),
-    (24, 353),
-    (27, 459),
-    (30, 561),
-];
+fn listed_steel(fy: u32) -> Option<Steel>
+    ensures { result ≡ steel_row fy }
+{
+    STEELS.iter().copied().find(|steel| steel.fy == fy)
+}
+
+fn listed_size(diameter: u32) -> Option<BoltSize>
+    ensures { result ≡ size_row diameter }
+{
+    BOLT_SIZES
+        .iter()
+        .copied()
+        .find(|size| size.diameter == diameter)
+}
+
+fn listed_class(grade: u32) -> Option<BoltClass>
+    ensures { result ≡ class_row grade }
+{
+    BOLT_CLASSES
+        .iter()
+        .copied()
+        .find(|class| class.grade == grade)
+}
 
 // The ultimate strength fu of a steel, N/mm².
 pub fn ultimate_strength(steel: u32) -> u32
     ensures value { result ≡ fu steel }
     ensures bound { result ≤ 540 }
 {
-    row_of(&ULTIMATE_STRENGTHS, steel)
+    listed_steel(steel).map_or(0, |row| row.fu)
 }
 
 // The correlation factor of fillet welds on a steel, hundredths.
@@ -66,7 +181,7 @@ pub fn weld_correlation(steel: u32) -> u32
     ensures value { result ≡ weld_factor steel }
     ensures bound { result ≤ 100 }
 {
-    row_of(&WELD_FACTORS, steel)
+    listed_steel(steel).map_or(0, |row| row.weld_factor)
 }
 
 // The ultimate strength fub of a bolt class, N/mm².
@@ -74,7 +189,7 @@ pub fn bolt_strength(grade: u32) -> u32
     ensures value { result ≡ fub grade }
     ensures bound { result ≤ 1000 }
 {
-    row_of(&BOLT_STRENGTHS, grade)
+    listed_class(grade).map_or(0, |row| row.fub)
 }
 
 // The diameter of a bolt's hole, mm.
@@ -82,7 +197,7 @@ pub fn hole(bolt: u32) -> u32
     ensures value { result ≡ hole_of bolt }
     ensures bound { result ≤ 33 }
 {
-    row_of(&HOLES, bolt)
+    listed_size(bolt).map_or(0, |row| row.hole)
 }
 
 // The gross area of a bolt's shank, mm².
@@ -90,7 +205,7 @@ pub fn shank_area(bolt: u32) -> u32
     ensures value { result ≡ shank_of bolt }
     ensures bound { result ≤ 707 }
 {
-    row_of(&SHANK_AREAS, bolt)
+    listed_size(bolt).map_or(0, |row| row.shank_area)
 }
 
 // The tensile stress area of a bolt, mm².
@@ -98,7 +213,7 @@ pub fn stress_area(bolt: u32) -> u32
     ensures value { result ≡ stress_of bolt }
     ensures bound { result ≤ 561 }
 {
-    row_of(&STRESS_AREAS, bolt)
+    listed_size(bolt).map_or(0, |row| row.stress_area)
 }
 
 // The area that a bolt is sheared on, mm²: the shank's for plane 0, otherwise the stress area.
@@ -129,19 +244,19 @@ pub fn shear_factor(grade: u32, plane: u32) -> u32
 pub fn is_steel(x: u32) -> bool
     ensures { result ≡ steel x }
 {
-    ultimate_strength(x) > 0
+    listed_steel(x).is_some()
 }
 
 // The table lists a bolt.
 pub fn is_bolt(x: u32) -> bool
     ensures { result ≡ bolt_size x }
 {
-    hole(x) > 0
+    listed_size(x).is_some()
 }
 
 // The table lists a bolt class.
 pub fn is_class(x: u32) -> bool
     ensures { result ≡ bolt_class x }
 {
-    bolt_strength(x) > 0
+    listed_class(x).is_some()
 }

@@ -1,6 +1,9 @@
 -- Admission by a list of checks in their order: the first that fails is the fault.
-use Rattle.std.specs.Prelude.{ℕ, ◌*◌, Bool, true, false, cond, ◌&&◌, List, [], ◌∷◌, Some, None, Ok, Err, Option, Result, nat_le}
+use Rattle.std.specs.Prelude.{ℕ, ◌+◌, ◌*◌, Bool, true, false, cond, ◌&&◌, List, [], ◌∷◌, Some, None, Ok, Err, Option, Result, nat_le}
+use Rattle.components.specs.Tabled.{bolt_size, bolt_class}
+use Rattle.components.specs.declared.bolts.Bolts.{Bolts}
 use Rattle.joint.specs.declared.fault.JointFault.{JointFault}
+use Rattle.joint.specs.declared.fault.JointFault.TheVariants.{NotAllowed}
 
 -- a check is what must hold, and the fault where it does not
 abbrev pub Check : Type 0
@@ -37,3 +40,9 @@ within low high x = nat_le low x && nat_le x high
 -- a distance is at least so many tenths of the hole
 abbrev pub spaced : (tenths hole distance : ℕ) → Bool
 spaced tenths hole distance = nat_le (tenths * hole) (10 * distance)
+
+-- the checks of a card's bolts, whose fields are numbered from 'first' on
+abbrev pub bolts_checked : ℕ → Bolts → List (Bool × JointFault)
+bolts_checked first b =
+    (bolt_size b.bolt, NotAllowed first) ∷ (bolt_class b.grade, NotAllowed (first + 1))
+    ∷ (within 0 1 b.plane, NotAllowed (first + 2)) ∷ (within 2 10 b.rows, NotAllowed (first + 3)) ∷ []

@@ -1,30 +1,41 @@
 -- The sheet of a joint, and what may be quoted from it.
-use Rattle.std.specs.Prelude.{◌≡◌, ℕ, ◌+◌, ◌/◌, ◌<◌, ◌≤◌, min, true, false, ◌⊎◌, Ok, Err, Result, count_ones}
+use Rattle.std.specs.Prelude.{◌≡◌, ℕ, ◌+◌, ◌/◌, ◌<◌, ◌≤◌, min, true, false, Some, None, Ok, Err, Option, Result, count_ones}
 use Rattle.resistance.specs.Expressions.{margin}
-use Rattle.joint.specs.Govern.{lowest, nobody}
+use Rattle.joint.specs.Govern.{lowest}
 use Rattle.joint.specs.declared.fault.JointFault.{JointFault}
 use Rattle.joint.specs.declared.kind.Kind.{Ghosts}
 use Rattle.joint.specs.declared.sheet.Governing.{Governing}
 use Rattle.joint.specs.declared.sheet.Sheet.{Sheet}
 
-module _ {J R : Type 0} (k : Ghosts J R) (j : J) where
-  abbrev pub governing_shear : Governing
-  governing_shear = lowest (k.printed j) 1 k.shear
+-- the mode that governs; mode and figure are 0 where none does
+abbrev pub or_nobody : Option Governing → Governing
+or_nobody None = record { mode = 0; figure = 0 }
+or_nobody (Some r) = r
 
-  abbrev pub governing_tying : Governing
-  governing_tying = lowest (k.printed j) 21 k.tying
+module _ {J R : Type 0} (k : Ghosts J R) (j : J) where
+  -- some shear mode always governs, since mode 1 binds
+  abbrev pub governing_shear : Governing
+  governing_shear = or_nobody (lowest (k.printed j) 1 k.SHEAR_MODES)
+
+  -- and nothing where no tying mode binds
+  abbrev pub governing_tying : Option Governing
+  governing_tying = lowest (k.printed j) 21 k.TYING_MODES
 
   -- the smaller of 255 and the governing shear in fifties of kilonewtons
   abbrev pub class_of : ℕ
   class_of = min (governing_shear.figure / 50000) 255
+
+  -- the unmet number, with 0 for the tying where none governs
+  abbrev pub unmet_by : ℕ
+  unmet_by = k.unmet j governing_shear.figure (or_nobody governing_tying).figure
 
   abbrev pub sheet_of : Sheet
   sheet_of = record {
     shear = governing_shear;
     tying = governing_tying;
     class = class_of;
-    unmet = k.unmet j governing_shear.figure governing_tying.figure;
-    count = count_ones (k.unmet j governing_shear.figure governing_tying.figure);
+    unmet = unmet_by;
+    count = count_ones unmet_by;
   }
 
   -- the figure is at or below every binding mode of the n from 'first' on, and plus the margin it is not at or below the mode named
@@ -33,15 +44,19 @@ module _ {J R : Type 0} (k : Ghosts J R) (j : J) where
     pub below : (i : ℕ) → first ≤ i → i < first + n → k.binding j i ≡ true → k.at j i r.figure
     pub near : k.at j r.mode (r.figure + margin) → ⊥
 
-  -- where no mode binds, mode and figure are 0
-  pub record Unbound (first n : ℕ) (r : Governing) : Type 0 where
-    pub none : (i : ℕ) → first ≤ i → i < first + n → k.binding j i ≡ false
-    pub noughts : r ≡ nobody
+  -- no mode binds
+  abbrev pub Unbound : (first n : ℕ) → Type 0
+  Unbound first n = (i : ℕ) → first ≤ i → i < first + n → k.binding j i ≡ false
+
+  -- a mode that governs may be quoted, and there is none only where no mode binds
+  abbrev pub QuotableIf : (first n : ℕ) → Option Governing → Type 0
+  QuotableIf first n None = Unbound first n
+  QuotableIf first n (Some r) = Quotable first n r
 
   -- what a sheet's governing figures are worth
   pub record Quoted (s : Sheet) : Type 0 where
-    pub shear : Quotable 1 k.shear s.shear
-    pub tying : Quotable 21 k.tying s.tying ⊎ Unbound 21 k.tying s.tying
+    pub shear : Quotable 1 k.SHEAR_MODES s.shear
+    pub tying : QuotableIf 21 k.TYING_MODES s.tying
 
 -- the sheet of what a card says, or the first fault of its joint
 abbrev pub sheet_if : {J R : Type 0} → Ghosts J R → Result J JointFault → Result Sheet JointFault

@@ -2,6 +2,16 @@
 ghost use Rattle.std.specs.Prelude.{◌≡◌};
 ghost use Rattle.joint.specs.Codes.{joint_code};
 
+// A fault by the three numbers that it is reported with.
+#[derive(Clone, Copy, PartialEq, Eq, Debug)]
+pub struct FaultCode {
+    // 1 of a card's text, 2 of the joint that it describes, 3 of the rail
+    pub layer: u32,
+    pub number: u32,
+    // where: a line, a field, or what the rail was asked for
+    pub at: usize,
+}
+
 #[derive(Clone, Copy, PartialEq, Eq, Debug)]
 pub enum JointFault {
     // the value is not one that the sheet allows
@@ -17,16 +27,20 @@ pub enum JointFault {
 }
 
 impl JointFault {
-    // The layer, the number and the place of the fault.
-    pub fn code(self) -> (u32, u32, usize)
+    pub fn code(self) -> FaultCode
         ensures { result ≡ joint_code self }
     {
-        match self {
-            JointFault::NotAllowed(field) => (2, 21, field as usize),
-            JointFault::TooClose(field) => (2, 22, field as usize),
-            JointFault::PlateTooThin(field) => (2, 23, field as usize),
-            JointFault::NoGap(field) => (2, 24, field as usize),
-            JointFault::UsedUp(field) => (2, 25, field as usize),
+        let (number, field) = match self {
+            JointFault::NotAllowed(field) => (21, field),
+            JointFault::TooClose(field) => (22, field),
+            JointFault::PlateTooThin(field) => (23, field),
+            JointFault::NoGap(field) => (24, field),
+            JointFault::UsedUp(field) => (25, field),
+        };
+        FaultCode {
+            layer: 2,
+            number,
+            at: field as usize,
         }
     }
 }

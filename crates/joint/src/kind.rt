@@ -9,18 +9,20 @@ use crate::fault::JointFault;
 pub trait Kind: Copy {
     type Joint: Copy;
 
+    // how many fields a card has
     const FIELDS: u32;
 
+    // how many shear modes the kind has, numbered from 1
     const SHEAR_MODES: u32;
 
+    // how many tying modes, numbered from 21
     const TYING_MODES: u32;
 
-    // how many fields a card has, how many shear modes, numbered from 1, and tying modes, numbered from 21
-    ghost fields: { ℕ };
+    ghost FIELDS: { ℕ };
 
-    ghost shear: { ℕ };
+    ghost SHEAR_MODES: { ℕ };
 
-    ghost tying: { ℕ };
+    ghost TYING_MODES: { ℕ };
 
     // the admitted joint, or the first fault
     ghost admission: { Self.Joint → Result Self JointFault };
@@ -40,15 +42,6 @@ pub trait Kind: Copy {
     // 'v is at or below mode i' of a joint, over whole numbers
     ghost at: { Self → ℕ → ℕ → Type 0 };
 
-    fn field_count() -> u32
-        ensures { result ≡ fields };
-
-    fn shear_count() -> u32
-        ensures { result ≡ shear };
-
-    fn tying_count() -> u32
-        ensures { result ≡ tying };
-
     fn admit(given: Self::Joint) -> Result<Self, JointFault>
         ensures { result ≡ admission given };
 
@@ -64,5 +57,5 @@ pub trait Kind: Copy {
     fn unmet_number(&self, governing_shear: u64, governing_tying: u64) -> u32
         ensures { result ≡ unmet self.now governing_shear governing_tying };
 
-    ghost meaning: { Meaning fields shear tying admission joint binding printed at };
+    ghost meaning: { Meaning FIELDS SHEAR_MODES TYING_MODES admission joint binding printed at };
 }

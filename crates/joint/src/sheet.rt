@@ -1,7 +1,7 @@
 // The sheet of a joint, by value.
 #[derive(Clone, Copy, PartialEq, Eq, Debug)]
 pub struct Governing {
-    // the number of the governing mode, and 0 where no mode binds
+    // the number of the governing mode
     pub mode: u32,
     // its printed figure, newtons
     pub figure: u64,
@@ -10,7 +10,8 @@ pub struct Governing {
 #[derive(Clone, Copy, PartialEq, Eq, Debug)]
 pub struct Sheet {
     pub shear: Governing,
-    pub tying: Governing,
+    // nothing where no tying mode binds
+    pub tying: Option<Governing>,
     // the price class, 0 to 255
     pub class: u8,
     // a power of two for each requirement that fails

@@ -15,7 +15,8 @@ pub fn worked_sheet<K: Kind>(joint: &K) -> Sheet
 {
     let shear = shear_governed(joint);
     let tying = tying_governed(joint);
-    let unmet = joint.unmet_number(shear.figure, tying.figure);
+    let tie = tying.map_or(0, |t| t.figure);
+    let unmet = joint.unmet_number(shear.figure, tie);
     Sheet {
         shear,
         tying,
@@ -30,8 +31,6 @@ pub fn judged_sheet<K: Kind>(given: K::Joint) -> Result<Sheet, JointFault>
     ensures value { result ≡ judged K.Kind given }
     ensures quoted { QuotedCard K.Kind given result }
 {
-    match K::admit(given) {
-        Ok(joint) => Ok(worked_sheet(&joint)),
-        Err(fault) => Err(fault),
-    }
+    let joint = K::admit(given)?;
+    Ok(worked_sheet(&joint))
 }

@@ -4,12 +4,6 @@ use Rattle.components.proofs.Listed.{weld_most}
 use Rattle.components.proofs.Plates.{weld_squares}
 use Rattle.components.proofs.weld.is_full_strength.Goals as goal
 
-pub overflow_mul-result : goal.overflow_mul-result
-overflow_mul-result c =
-    let f : c.weld_correlation.result * c.args.steel ≤ 46000 = subst (λ (n : ℕ). n * c.args.steel ≤ 46000) (sym c.weld_correlation.ensures.value) (weld_most c.args.steel) in
-    let t : c.args.thickness ≤ 4294967295 = omega arith in
-    omega (arith, mul-le-mul t f)
-
 pub overflow_mul-result-2 : goal.overflow_mul-result-2
 overflow_mul-result-2 c =
     let f : c.weld_correlation.result * c.args.steel ≤ 46000 = subst (λ (n : ℕ). n * c.args.steel ≤ 46000) (sym c.weld_correlation.ensures.value) (weld_most c.args.steel) in

@@ -7,8 +7,8 @@ use Rattle.components.proofs.bearing.Bearing.ultimate.Goals as goal
 pub times-requires : goal.times-requires
 times-requires c =
     let b = c.args.self.now in
-    let s = total_some b c.args.k c.args.a c.in_ok-total.total (sym c.in_ok-total.ensures) in
-    let m = bear_most b c.args.k c.args.a s.0 in
+    let s = total_some b c.args.factors.k c.args.factors.alpha c.in_ok-total.total (sym c.in_ok-total.ensures) in
+    let m = bear_most b c.args.factors.k c.args.factors.alpha s.0 in
     let over : c.in_ok-total.total.over ≤ 25920000000000000 = subst (λ (r : Ratio). r.over ≤ 25920000000000000) (sym s.1) m.0 in
     let under : c.in_ok-total.total.under ≤ 2500000000 = subst (λ (r : Ratio). r.under ≤ 2500000000) (sym s.1) m.1 in
     record { over = omega arith; under = omega arith }

@@ -7,9 +7,6 @@ use Rattle.resistance.proofs.Held.{checked_held}
 use Rattle.resistance.proofs.Readings.{stands}
 use Rattle.resistance.proofs.expression.Expression.figure.Goals as goal
 
-pub returns-in-Whole : goal.returns-in-Whole
-returns-in-Whole c = record { value = search rules; stands = stands _ }
-
 pub returns-in-Root : goal.returns-in-Root
 returns-in-Root c = record { value = search rules; stands = stands _ }
 

@@ -24,13 +24,6 @@ overflow_add-a c =
     let a = leg_most p q g.scale g.shear g.down g.across l in
     omega (arith, mul-le-mul w w, mul-le-mul a a)
 
-pub nonzero_div-result : goal.nonzero_div-result
-nonzero_div-result c =
-    let g = c.args.self in
-    let l = limits c.floor-p.result c.floor-q.result g.scale g.shear g.down g.across c.if-not-is_within.ensures in
-    let s = root_least (g.scale * g.down) c.quotient_up-w.result c.root_up-s.result c.root_up-s.ensures.smallest in
-    omega arith
-
 pub overflow_cast-result-3 : goal.overflow_cast-result-3
 overflow_cast-result-3 c =
     let g = c.args.self in
