@@ -1,9 +1,9 @@
 -- The checks of a fin card in their order: every field's value, then the least distances, then the joint as a whole.
 use Rattle.std.specs.Prelude.{ℕ, ◌*◌, Bool, List, [], ◌∷◌, ◌++◌, Option, nat_le, nat_lt}
-use Rattle.joint.specs.Checked.{first_of, within, spaced}
+use Rattle.joint.specs.Checked.{first_of, bolts_checked, within, spaced}
 use Rattle.joint.specs.declared.fault.JointFault.{JointFault}
 use Rattle.joint.specs.declared.fault.JointFault.TheVariants.{NotAllowed, TooClose, PlateTooThin, NoGap, UsedUp}
-use Rattle.components.specs.Tabled.{hole_of, steel, bolt_size, bolt_class}
+use Rattle.components.specs.Tabled.{hole_of, steel}
 use Rattle.components.specs.declared.bolts.Bolts.{Bolts}
 use Rattle.fin.specs.declared.fin_joint.FinJoint.{FinJoint}
 use Rattle.fin.specs.declared.fin_joint.Steels.{Steels}
@@ -15,8 +15,7 @@ abbrev pub steel_checks : Steels → List (Bool × JointFault)
 steel_checks s = (steel s.plate, NotAllowed 1) ∷ (steel s.web, NotAllowed 2) ∷ []
 
 abbrev pub bolt_checks : Bolts → List (Bool × JointFault)
-bolt_checks b =
-    (bolt_size b.bolt, NotAllowed 3) ∷ (bolt_class b.grade, NotAllowed 4) ∷ (within 0 1 b.plane, NotAllowed 5) ∷ (within 2 10 b.rows, NotAllowed 6) ∷ []
+bolt_checks b = bolts_checked 3 b
 
 abbrev pub layout_checks : Layout → List (Bool × JointFault)
 layout_checks l =

@@ -9,9 +9,9 @@ use Rattle.fin.specs.declared.fin_joint.FinJoint.{FinJoint}
 
 abbrev pub fin_kind : Ghosts Fin FinJoint
 fin_kind = record {
-  fields = 21;
-  shear = 11;
-  tying = 7;
+  FIELDS = 21;
+  SHEAR_MODES = 11;
+  TYING_MODES = 7;
   admission = fin_admission;
   joint = λ f. f.joint;
   binding = fin_binds;

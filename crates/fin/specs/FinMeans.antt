@@ -13,7 +13,7 @@ use Rattle.components.specs.Tabled.{fu, fub, hole_of, area_of, shear_of}
 use Rattle.components.proofs.BearParts.{bear_proper}
 use Rattle.components.proofs.GroupRanges.{Ranges, group_ranges}
 use Rattle.components.proofs.Listed.{area_range, shear_range}
-use Rattle.components.proofs.Plates.{depth_most, web_torn_most}
+use Rattle.components.proofs.Plates.{depth_most}
 use Rattle.joint.specs.Checked.{within}
 use Rattle.joint.specs.Meaning.{Meaning}
 use Rattle.joint.specs.Modes.{printing, Below, Every, SoundMode, HeldMode}
@@ -111,7 +111,7 @@ module _ (j : FinJoint) (a : Admitted j) where
   bolt_ranges =
       let A = area_of j.bolts.bolt j.bolts.plane in
       let s = shear_of j.bolts.grade j.bolts.plane in
-      let ar = area_range j.bolts.bolt j.bolts.plane (let h = a.bolt.worth in omega arith) in
+      let ar = area_range j.bolts.bolt j.bolts.plane a.bolt_listed in
       let sr = shear_range j.bolts.grade j.bolts.plane in
       let n = 2 * j.bolts.rows * s * fub j.bolts.grade * A in
       let lo = mul-le-mul (mul-le-mul (mul-le-mul a.rows_low sr.0) a.grade.worth) ar.0 in
@@ -180,7 +180,7 @@ module _ (j : FinJoint) (a : Admitted j) where
   torn_most = let h = depth_most j.bolts.rows j.layout.e1 j.layout.p1 a.rows_high a.e1_high a.p1_high in omega arith
 
   web_torn_bound : web_torn_of j ≤ 4200
-  web_torn_bound = let h = web_torn_most j.bolts.rows j.parts.e1b j.layout.p1 a.rows_high a.e1b_high a.p1_high in omega arith
+  web_torn_bound = let h = depth_most j.bolts.rows j.parts.e1b j.layout.p1 a.rows_high a.e1b_high a.p1_high in omega arith
 
   -- 64 bits hold every figure
   shear_held : Every HeldMode (shear_modes j)

@@ -5,7 +5,7 @@ use Rattle.resistance.specs.declared.expression.Expression.{Expression}
 use Rattle.resistance.specs.declared.expression.Expression.TheVariants.{Whole, Root, Sum, Group}
 use Rattle.resistance.specs.declared.group.BoltGroup.{BoltGroup}
 use Rattle.resistance.specs.declared.ratio.Ratio.{Ratio}
-use Rattle.components.specs.Bears.{k, k', u, w, bear_of, ultimate, shear_total}
+use Rattle.components.specs.Bears.{k, k', u, w, bear_of, on_part, ultimate, shear_total}
 use Rattle.components.specs.Columns.{depth_by, net_by, torn_by}
 use Rattle.components.specs.Tabled.{fu, fub, hole_of, area_of, shear_of}
 use Rattle.components.specs.declared.bearing.Bearing.{Bearing}
@@ -44,10 +44,10 @@ module _ (j : FinJoint) where
 
   -- the bolts on the plate, and on the beam web
   abbrev pub on_plate : Bearing
-  on_plate = record { bolts = j.bolts.rows; bolt = j.bolts.bolt; grade = j.bolts.grade; steel = j.steels.plate; thickness = j.parts.tp }
+  on_plate = on_part j.bolts j.bolts.rows j.parts.tp j.steels.plate
 
   abbrev pub on_web : Bearing
-  on_web = record { bolts = j.bolts.rows; bolt = j.bolts.bolt; grade = j.bolts.grade; steel = j.steels.web; thickness = j.parts.tw }
+  on_web = on_part j.bolts j.bolts.rows j.parts.tw j.steels.web
 
   -- T: all bolts in shear
   abbrev pub bolt_total : Ratio

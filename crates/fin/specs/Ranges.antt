@@ -1,7 +1,7 @@
 -- What an admitted fin plate keeps, as plain facts, from its checks.
 use Rattle.std.specs.Prelude.{◌≡◌, ◌*◌, ◌<◌, ◌≤◌, true}
 use Rattle.std.proofs.lemmas.Bool.{ltb-true, leb-true}
-use Rattle.components.specs.Tabled.{fu, fub, hole_of}
+use Rattle.components.specs.Tabled.{fu, fub, hole_of, bolt_size}
 use Rattle.components.proofs.Listed.{Range, steel_range, class_range, bolt_range}
 use Rattle.joint.specs.Checked.{none_of}
 use Rattle.joint.proofs.Turns.{passes, low, high}
@@ -12,6 +12,7 @@ pub record Admitted (j : FinJoint) : Type 0 where
   pub plate : Range 235 460 360 540 j.steels.plate (fu j.steels.plate)
   pub web : Range 235 460 360 540 j.steels.web (fu j.steels.web)
   pub bolt : Range 12 30 13 33 j.bolts.bolt (hole_of j.bolts.bolt)
+  pub bolt_listed : bolt_size j.bolts.bolt ≡ true
   pub grade : Range 46 109 400 1000 j.bolts.grade (fub j.bolts.grade)
   pub rows_low : 2 ≤ j.bolts.rows
   pub rows_high : j.bolts.rows ≤ 10
@@ -50,10 +51,11 @@ ranges j h =
     let apart = demands.1.1.1.1.1 in
     let whole = apart.1.1.1.1.1 in
     record {
-      plate = steel_range j.steels.plate (ltb-true _ _ steels.0);
-      web = steel_range j.steels.web (ltb-true _ _ steels.1.0);
-      bolt = bolt_range j.bolts.bolt (ltb-true _ _ bolts.0);
-      grade = class_range j.bolts.grade (ltb-true _ _ bolts.1.0);
+      plate = steel_range j.steels.plate steels.0;
+      web = steel_range j.steels.web steels.1.0;
+      bolt = bolt_range j.bolts.bolt bolts.0;
+      bolt_listed = bolts.0;
+      grade = class_range j.bolts.grade bolts.1.0;
       rows_low = low 2 10 _ bolts.1.1.1.0;
       rows_high = high 2 10 _ bolts.1.1.1.0;
       e1_high = high 1 150 _ layout.0;

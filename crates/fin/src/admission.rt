@@ -1,13 +1,13 @@
 // Admission of a fin plate: one function for each group of fields, in the order of the card, then the least distances, then the joint as a whole.
 ghost use Rattle.std.specs.Prelude.{◌≡◌};
+ghost use Rattle.components.specs.Tabled.{hole_of};
 ghost use Rattle.joint.specs.Checked.{of_list};
-ghost use Rattle.fin.specs.FieldChecks.{steel_checks, bolt_checks, layout_checks, part_checks, demand_checks, distance_checks, whole_checks};
+ghost use Rattle.fin.specs.FieldChecks.{steel_checks, layout_checks, part_checks, demand_checks, distance_checks, whole_checks};
 ghost use Rattle.fin.specs.FinAdmission.{outcomes};
 
 use crate::fin_joint::{Demands, FinJoint, Layout, Parts, Steels};
-use components::bolts::Bolts;
-use components::tables::{hole, is_bolt, is_class, is_steel};
-use joint::checks::{allowed, apart, is_within};
+use components::tables::{hole, is_steel};
+use joint::checks::{allowed, apart, check_bolts, is_within};
 use joint::fault::JointFault;
 
 fn check_steels(s: Steels) -> Result<(), JointFault>
@@ -15,15 +15,6 @@ fn check_steels(s: Steels) -> Result<(), JointFault>
 {
     allowed(is_steel(s.plate), 1)?;
     allowed(is_steel(s.web), 2)
-}
-
-fn check_bolts(b: Bolts) -> Result<(), JointFault>
-    ensures { result ≡ of_list (bolt_checks b) }
-{
-    allowed(is_bolt(b.bolt), 3)?;
-    allowed(is_class(b.grade), 4)?;
-    allowed(is_within(0, 1, b.plane), 5)?;
-    allowed(is_within(2, 10, b.rows), 6)
 }
 
 fn check_layout(l: Layout) -> Result<(), JointFault>
@@ -56,9 +47,12 @@ fn check_demands(d: Demands) -> Result<(), JointFault>
     allowed(is_within(0, 10000000, d.n), 21)
 }
 
-fn check_distances(d0: u32, l: Layout, p: Parts) -> Result<(), JointFault>
-    ensures { result ≡ of_list (distance_checks d0 l p) }
+fn check_distances(j: FinJoint) -> Result<(), JointFault>
+    ensures { result ≡ of_list (distance_checks (hole_of j.bolts.bolt) j.layout j.parts) }
 {
+    let d0 = hole(j.bolts.bolt);
+    let l = j.layout;
+    let p = j.parts;
     apart(12, d0, l.e1, 7)?;
     apart(22, d0, l.p1, 8)?;
     apart(12, d0, l.e2, 9)?;
@@ -66,20 +60,23 @@ fn check_distances(d0: u32, l: Layout, p: Parts) -> Result<(), JointFault>
     apart(12, d0, p.e2b, 14)
 }
 
-fn check_whole(d0: u32, rows: u32, l: Layout, p: Parts, d: Demands) -> Result<(), JointFault>
-    ensures { result ≡ of_list (whole_checks d0 rows l p d) }
+// The joint as a whole.
+fn check_whole(j: FinJoint) -> Result<(), JointFault>
+    ensures { result ≡ of_list (whole_checks (hole_of j.bolts.bolt) j.bolts.rows j.layout j.parts j.demands) }
 {
+    let l = j.layout;
+    let p = j.parts;
     if 3 * l.z as u64 > 2 * p.tp as u64 {
         return Err(JointFault::PlateTooThin(11));
     }
     if p.e2b >= l.z {
         return Err(JointFault::NoGap(14));
     }
-    let holes = rows as u64 * d0 as u64;
+    let holes = j.bolts.rows as u64 * hole(j.bolts.bolt) as u64;
     if holes as u128 * p.tw as u128 >= 10 * p.av as u128 {
         return Err(JointFault::UsedUp(15));
     }
-    if holes >= d.db as u64 {
+    if holes >= j.demands.db as u64 {
         return Err(JointFault::UsedUp(18));
     }
     Ok(())
@@ -89,12 +86,11 @@ fn check_whole(d0: u32, rows: u32, l: Layout, p: Parts, d: Demands) -> Result<()
 pub(crate) fn check_all(j: FinJoint) -> Result<(), JointFault>
     ensures { result ≡ outcomes j }
 {
-    let d0 = hole(j.bolts.bolt);
     check_steels(j.steels)?;
-    check_bolts(j.bolts)?;
+    check_bolts(j.bolts, 3)?;
     check_layout(j.layout)?;
     check_parts(j.parts)?;
     check_demands(j.demands)?;
-    check_distances(d0, j.layout, j.parts)?;
-    check_whole(d0, j.bolts.rows, j.layout, j.parts, j.demands)
+    check_distances(j)?;
+    check_whole(j)
 }

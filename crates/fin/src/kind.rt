@@ -1,6 +1,5 @@
 // Fin plates as a kind of joint.
-ghost use Rattle.std.specs.Prelude.{◌≡◌, not, ◌&&◌, ◌||◌, ◌==◌};
-ghost use Rattle.joint.specs.Checked.{within};
+ghost use Rattle.std.specs.Prelude.{◌≡◌};
 ghost use Rattle.joint.specs.Modes.{printing, Below};
 ghost use Rattle.fin.specs.FinAdmission.{fin_admission};
 ghost use Rattle.fin.specs.FinModes.{fin_mode, fin_binds};
@@ -10,16 +9,8 @@ ghost use Rattle.fin.specs.FinMeans.{fin_means};
 use crate::admission::check_all;
 use crate::fin::Fin;
 use crate::fin_joint::FinJoint;
-use joint::checks::is_within;
 use joint::fault::JointFault;
 use joint::kind::Kind;
-
-// Every mode of the sheet but 6, which has a rule, and 7, which never binds.
-fn always_binds(mode: u32) -> bool
-    ensures { result ≡ not (mode == 7) && (within 1 11 mode || within 21 27 mode) }
-{
-    mode != 7 && (is_within(1, 11, mode) || is_within(21, 27, mode))
-}
 
 impl Fin {
     // The printed figure of a mode, and nothing where it does not bind.
@@ -39,11 +30,11 @@ impl Kind for Fin {
 
     const TYING_MODES: u32 = 7;
 
-    ghost fields = { 21 };
+    ghost FIELDS = { 21 };
 
-    ghost shear = { 11 };
+    ghost SHEAR_MODES = { 11 };
 
-    ghost tying = { 7 };
+    ghost TYING_MODES = { 7 };
 
     ghost admission = { fin_admission };
 
@@ -59,34 +50,22 @@ impl Kind for Fin {
 
     ghost meaning = { fin_means };
 
-    fn field_count() -> u32 {
-        Self::FIELDS
-    }
-
-    fn shear_count() -> u32 {
-        Self::SHEAR_MODES
-    }
-
-    fn tying_count() -> u32 {
-        Self::TYING_MODES
-    }
-
     fn admit(given: FinJoint) -> Result<Fin, JointFault> {
-        match check_all(given) {
-            Ok(()) => Ok(Fin { joint: given }),
-            Err(fault) => Err(fault),
-        }
+        check_all(given)?;
+        Ok(Fin { joint: given })
     }
 
     fn given(&self) -> FinJoint {
         self.joint
     }
 
+    #[tactic(auto, using(std::proofs::lemmas::Bool::Decides::nat_tests), unfolding(crate::specs::FinModes::shear_binds, crate::specs::FinModes::tying_binds))]
     fn binds(&self, mode: u32) -> bool {
-        if mode == 6 {
-            self.is_shallow()
-        } else {
-            always_binds(mode)
+        match mode {
+            6 => self.is_shallow(),
+            7 => false,
+            1..=11 | 21..=27 => true,
+            _ => false,
         }
     }
 

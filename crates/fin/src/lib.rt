@@ -6,5 +6,4 @@ pub mod fin;
 pub mod fin_joint;
 pub mod kind;
 mod modes;
-pub mod sheet;
 mod unmet;

@@ -1,16 +1,19 @@
 // The modes of a fin plate, each as the expression of its resistance.
-ghost use Rattle.std.specs.Prelude.{◌≡◌, ◌≤◌, Some, None};
-ghost use Rattle.components.specs.Tabled.{hole_of};
-ghost use Rattle.fin.specs.FinModes.{depth_of, web_torn_of, length_of, shallow, on_plate, on_web, bolt_total, plate_down, plate_across, web_down, web_across, group_by, bolt_group, plate_bearing, gross_plate, net_plate, plate_tearing, plate_bending, web_bearing, gross_web, net_web, web_tearing, bolt_tying, plate_bearing_tying, gross_plate_tying, net_plate_tying, web_bearing_tying, gross_web_tying, net_web_tying, plate_k, plate_α, plate_k_across, plate_α_across, web_k, web_α, web_k_across, web_α_across, shear_modes, tying_modes, fin_mode};
+ghost use Rattle.std.specs.Prelude.{◌≡◌, ◌-◌, ◌*◌, ◌≤◌, Some, None};
+ghost use Rattle.components.specs.Bears.{on_part};
+ghost use Rattle.components.specs.Tabled.{fu, hole_of};
+ghost use Rattle.fin.specs.FinModes.{depth_of, length_of, shallow, bolt_total, plate_down, plate_across, web_down, web_across, group_by, bolt_group, plate_bearing, gross_plate, net_plate, plate_tearing, plate_bending, web_bearing, gross_web, net_web, web_tearing, bolt_tying, plate_bearing_tying, gross_plate_tying, net_plate_tying, web_bearing_tying, gross_web_tying, net_web_tying, plate_k, plate_α, plate_k_across, plate_α_across, web_k, web_α, web_k_across, web_α_across, shear_modes, tying_modes, fin_mode};
 ghost use Rattle.joint.specs.Modes.{numbered};
-ghost use Rattle.resistance.specs.declared.expression.Expression.TheVariants.{Group};
+ghost use Rattle.resistance.specs.Fractions.{◌÷◌};
+ghost use Rattle.resistance.specs.declared.expression.Expression.TheVariants.{Sum, Group};
 
 use crate::fin::Fin;
 use components::bearing::{
-    Bearing, edge_factor, end_factor, pitch_factor, shear_of_bolts, spacing_factor,
+    Bearing, Factors, edge_factor, end_factor, pitch_factor, spacing_factor,
 };
 use components::column::Column;
-use components::tables::{bolt_strength, hole, shear_area, shear_factor, ultimate_strength};
+use components::part::Part;
+use components::tables::{hole, ultimate_strength};
 use resistance::expression::Expression;
 use resistance::group::BoltGroup;
 use resistance::ratio::Ratio;
@@ -31,23 +34,27 @@ impl Fin {
         }
     }
 
+    // The same bolts in the beam web, which ends above the top one.
+    fn web_column(&self) -> Column
+        ensures rows { result.rows ≡ self.now.joint.bolts.rows }
+        ensures end { result.e1 ≡ self.now.joint.parts.e1b }
+        ensures pitch { result.p1 ≡ self.now.joint.layout.p1 }
+        ensures hole { result.hole ≡ hole_of self.now.joint.bolts.bolt }
+    {
+        Column {
+            rows: self.joint.bolts.rows,
+            e1: self.joint.parts.e1b,
+            p1: self.joint.layout.p1,
+            hole: hole(self.joint.bolts.bolt),
+        }
+    }
+
     // hp: the depth of the plate.
-    pub(crate) fn depth(&self) -> u64
+    pub(crate) fn depth(&self) -> u32
         ensures value { result ≡ depth_of self.now.joint }
         ensures bound { result ≤ 2100 }
     {
         self.column().depth()
-    }
-
-    // Gw: twice the net shear length of the torn block of the beam web.
-    fn web_torn_length(&self) -> u64
-        ensures value { result ≡ web_torn_of self.now.joint }
-        ensures bound { result ≤ 4200 }
-    {
-        let b = self.joint.bolts;
-        let rows = b.rows as u64;
-        2 * self.joint.parts.e1b as u64 + 2 * (rows - 1) * self.joint.layout.p1 as u64
-            - (2 * rows - 1) * hole(b.bolt) as u64
     }
 
     // L: the length by which the bolts of the column resist turning.
@@ -62,109 +69,109 @@ impl Fin {
     pub(crate) fn is_shallow(&self) -> bool
         ensures { result ≡ shallow self.now.joint }
     {
-        100 * self.depth() < 273 * self.joint.layout.z as u64
+        100 * self.depth() < 273 * self.joint.layout.z
     }
 
-    fn plate_bolts(&self) -> Bearing
-        ensures { result ≡ on_plate self.now.joint }
+    fn plate(&self) -> Part
+        ensures thickness { result.thickness ≡ self.now.joint.parts.tp }
+        ensures steel { result.steel ≡ self.now.joint.steels.plate }
     {
-        let b = self.joint.bolts;
-        Bearing {
-            bolts: b.rows,
-            bolt: b.bolt,
-            grade: b.grade,
-            steel: self.joint.steels.plate,
+        Part {
             thickness: self.joint.parts.tp,
+            steel: self.joint.steels.plate,
         }
     }
 
-    fn web_bolts(&self) -> Bearing
-        ensures { result ≡ on_web self.now.joint }
+    fn web(&self) -> Part
+        ensures thickness { result.thickness ≡ self.now.joint.parts.tw }
+        ensures steel { result.steel ≡ self.now.joint.steels.web }
     {
-        let b = self.joint.bolts;
-        Bearing {
-            bolts: b.rows,
-            bolt: b.bolt,
-            grade: b.grade,
-            steel: self.joint.steels.web,
+        Part {
             thickness: self.joint.parts.tw,
+            steel: self.joint.steels.web,
         }
+    }
+
+    // All bolts, bearing on a part.
+    fn bolts_on(&self, part: Part) -> Bearing
+        ensures { result ≡ on_part self.now.joint.bolts self.now.joint.bolts.rows part.thickness part.steel }
+    {
+        self.joint.bolts.on_part(self.joint.bolts.rows, part)
     }
 
     // k and α of the plate, of a load down the column.
-    fn plate_factors(&self) -> (Ratio, Ratio)
-        ensures { (result.0 ≡ plate_k self.now.joint) × (result.1 ≡ plate_α self.now.joint) }
+    fn plate_factors(&self) -> Factors
+        ensures k { result.k ≡ plate_k self.now.joint }
+        ensures alpha { result.alpha ≡ plate_α self.now.joint }
     {
         let d0 = hole(self.joint.bolts.bolt);
         let l = self.joint.layout;
-        (
-            edge_factor(d0, l.e2),
-            end_factor(d0, l.e1).lesser(pitch_factor(d0, l.p1)),
-        )
+        Factors {
+            k: edge_factor(d0, l.e2),
+            alpha: end_factor(d0, l.e1).lesser(pitch_factor(d0, l.p1)),
+        }
     }
 
     // The same of a load across it.
-    fn plate_factors_across(&self) -> (Ratio, Ratio)
-        ensures { (result.0 ≡ plate_k_across self.now.joint) × (result.1 ≡ plate_α_across self.now.joint) }
+    fn plate_factors_across(&self) -> Factors
+        ensures k { result.k ≡ plate_k_across self.now.joint }
+        ensures alpha { result.alpha ≡ plate_α_across self.now.joint }
     {
         let d0 = hole(self.joint.bolts.bolt);
         let l = self.joint.layout;
-        (
-            edge_factor(d0, l.e1).lesser(spacing_factor(d0, l.p1)),
-            end_factor(d0, l.e2),
-        )
+        Factors {
+            k: edge_factor(d0, l.e1).lesser(spacing_factor(d0, l.p1)),
+            alpha: end_factor(d0, l.e2),
+        }
     }
 
-    fn web_factors(&self) -> (Ratio, Ratio)
-        ensures { (result.0 ≡ web_k self.now.joint) × (result.1 ≡ web_α self.now.joint) }
+    fn web_factors(&self) -> Factors
+        ensures k { result.k ≡ web_k self.now.joint }
+        ensures alpha { result.alpha ≡ web_α self.now.joint }
     {
         let d0 = hole(self.joint.bolts.bolt);
-        (
-            edge_factor(d0, self.joint.parts.e2b),
-            pitch_factor(d0, self.joint.layout.p1),
-        )
+        Factors {
+            k: edge_factor(d0, self.joint.parts.e2b),
+            alpha: pitch_factor(d0, self.joint.layout.p1),
+        }
     }
 
-    fn web_factors_across(&self) -> (Ratio, Ratio)
-        ensures { (result.0 ≡ web_k_across self.now.joint) × (result.1 ≡ web_α_across self.now.joint) }
+    fn web_factors_across(&self) -> Factors
+        ensures k { result.k ≡ web_k_across self.now.joint }
+        ensures alpha { result.alpha ≡ web_α_across self.now.joint }
     {
         let d0 = hole(self.joint.bolts.bolt);
-        (
-            spacing_factor(d0, self.joint.layout.p1),
-            end_factor(d0, self.joint.parts.e2b),
-        )
+        Factors {
+            k: spacing_factor(d0, self.joint.layout.p1),
+            alpha: end_factor(d0, self.joint.parts.e2b),
+        }
     }
 
     // P and Q of the plate.
-    pub(crate) fn plate_totals(&self) -> Option<(Ratio, Ratio)>
-        ensures { result ≡ Some (plate_down self.now.joint, plate_across self.now.joint) }
+    pub(crate) fn plate_totals(&self) -> (Ratio, Ratio)
+        ensures { result ≡ (plate_down self.now.joint, plate_across self.now.joint) }
     {
-        let bolts = self.plate_bolts();
-        let (k, a) = self.plate_factors();
-        let (x, b) = self.plate_factors_across();
-        let down = bolts.total(k, a)?;
-        let across = bolts.total(x, b)?;
-        Some((down, across))
+        let bolts = self.bolts_on(self.plate());
+        let down = bolts.total(self.plate_factors()).unwrap();
+        let across = bolts.total(self.plate_factors_across()).unwrap();
+        (down, across)
     }
 
     // P and Q of the beam web.
-    pub(crate) fn web_totals(&self) -> Option<(Ratio, Ratio)>
-        ensures { result ≡ Some (web_down self.now.joint, web_across self.now.joint) }
+    pub(crate) fn web_totals(&self) -> (Ratio, Ratio)
+        ensures { result ≡ (web_down self.now.joint, web_across self.now.joint) }
     {
-        let bolts = self.web_bolts();
-        let (k, a) = self.web_factors();
-        let (x, b) = self.web_factors_across();
-        let down = bolts.total(k, a)?;
-        let across = bolts.total(x, b)?;
-        Some((down, across))
+        let bolts = self.bolts_on(self.web());
+        let down = bolts.total(self.web_factors()).unwrap();
+        let across = bolts.total(self.web_factors_across()).unwrap();
+        (down, across)
     }
 
     // T: all bolts in shear.
     pub(crate) fn bolts_total(&self) -> Ratio
         ensures { result ≡ bolt_total self.now.joint }
     {
-        let b = self.joint.bolts;
-        shear_of_bolts(b.rows, b.bolt, b.grade, b.plane)
+        self.joint.bolts.in_shear(self.joint.bolts.rows, 2, 25)
     }
 
     // The group of the bolts, of these totals down and across.
@@ -189,66 +196,56 @@ impl Fin {
         self.group(all, all)
     }
 
-    fn plate_in_bearing(&self) -> Option<Expression>
-        ensures { result ≡ Some (plate_bearing self.now.joint) }
+    fn plate_in_bearing(&self) -> Expression
+        ensures { result ≡ plate_bearing self.now.joint }
     {
-        let (down, across) = self.plate_totals()?;
-        Some(self.group(down, across))
+        let (down, across) = self.plate_totals();
+        self.group(down, across)
     }
 
-    fn web_in_bearing(&self) -> Option<Expression>
-        ensures { result ≡ Some (web_bearing self.now.joint) }
+    fn web_in_bearing(&self) -> Expression
+        ensures { result ≡ web_bearing self.now.joint }
     {
-        let (down, across) = self.web_totals()?;
-        Some(self.group(down, across))
+        let (down, across) = self.web_totals();
+        self.group(down, across)
     }
 
     fn gross_section(&self) -> Expression
         ensures { result ≡ gross_plate self.now.joint }
     {
-        Expression::Root(Ratio {
-            over: 10 * self.depth() * self.joint.parts.tp as u64 * self.joint.steels.plate as u64,
-            under: 127,
-        })
+        Expression::Root(self.plate().at_yield(10 * self.depth(), 127))
     }
 
     fn net_section(&self) -> Expression
         ensures { result ≡ net_plate self.now.joint }
     {
-        let fu = ultimate_strength(self.joint.steels.plate) as u64;
-        Expression::Root(Ratio {
-            over: 2 * self.joint.parts.tp as u64 * self.column().net_depth() * fu,
-            under: 25,
-        })
+        let net = self.column().net_depth();
+        Expression::Root(self.plate().at_rupture(2 * net, 25))
+    }
+
+    // A block torn out of a part: across, to an edge at this distance from the bolts, and along a net length that counts both sides.
+    fn torn_block(&self, part: Part, edge: u32, length: u32) -> Expression
+        requires spaced { 12 * hole_of self.now.joint.bolts.bolt ≤ 10 * edge }
+        requires near { edge ≤ 150 }
+        ensures { result ≡ Sum ((part.thickness * (2 * edge - hole_of self.now.joint.bolts.bolt) * fu part.steel) ÷ 50) ((part.thickness * part.steel * length) ÷ 20) }
+    {
+        let torn = 2 * edge - hole(self.joint.bolts.bolt);
+        Expression::Sum(part.at_rupture(torn, 50), part.at_yield(length, 20))
     }
 
     fn tearing_block(&self) -> Expression
         ensures { result ≡ plate_tearing self.now.joint }
     {
-        let tp = self.joint.parts.tp as u64;
-        let plate = self.joint.steels.plate;
-        let fu = ultimate_strength(plate) as u64;
-        let torn = 2 * self.joint.layout.e2 as u64 - hole(self.joint.bolts.bolt) as u64;
-        Expression::Sum(
-            Ratio {
-                over: tp * torn * fu,
-                under: 50,
-            },
-            Ratio {
-                over: tp * plate as u64 * self.column().torn_length(),
-                under: 20,
-            },
-        )
+        let length = self.column().torn_length();
+        self.torn_block(self.plate(), self.joint.layout.e2, length)
     }
 
     fn bending(&self) -> Expression
         ensures { result ≡ plate_bending self.now.joint }
     {
         let hp = self.depth();
-        Expression::Whole(Ratio {
-            over: self.joint.parts.tp as u64 * hp * hp * self.joint.steels.plate as u64,
-            under: 60 * self.joint.layout.z as u64,
-        })
+        let divisor = 60 * self.joint.layout.z as u64;
+        Expression::Whole(self.plate().at_yield(hp * hp, divisor))
     }
 
     fn gross_web_section(&self) -> Expression
@@ -276,19 +273,10 @@ impl Fin {
     fn tearing_web_block(&self) -> Expression
         ensures { result ≡ web_tearing self.now.joint }
     {
-        let tw = self.joint.parts.tw as u64;
-        let web = self.joint.steels.web;
-        let fu = ultimate_strength(web) as u64;
-        let torn = 2 * self.joint.parts.e2b as u64 - hole(self.joint.bolts.bolt) as u64;
-        Expression::Sum(
-            Ratio {
-                over: tw * torn * fu,
-                under: 50,
-            },
-            Ratio {
-                over: tw * web as u64 * self.web_torn_length(),
-                under: 20,
-            },
+        self.torn_block(
+            self.web(),
+            self.joint.parts.e2b,
+            self.web_column().torn_length(),
         )
     }
 
@@ -296,94 +284,67 @@ impl Fin {
     fn bolts_tied(&self) -> Expression
         ensures { result ≡ bolt_tying self.now.joint }
     {
-        let b = self.joint.bolts;
-        let s = shear_factor(b.grade, b.plane) as u64;
-        let fub = bolt_strength(b.grade) as u64;
-        let area = shear_area(b.bolt, b.plane) as u64;
-        Expression::Whole(Ratio {
-            over: b.rows as u64 * s * fub * area,
-            under: 10,
-        })
+        Expression::Whole(self.joint.bolts.in_shear(self.joint.bolts.rows, 1, 10))
     }
 
-    fn plate_bearing_tied(&self) -> Option<Expression>
-        ensures { result ≡ Some (plate_bearing_tying self.now.joint) }
+    fn plate_bearing_tied(&self) -> Expression
+        ensures { result ≡ plate_bearing_tying self.now.joint }
     {
-        let (k, a) = self.plate_factors_across();
-        let total = self.plate_bolts().ultimate(k, a)?;
-        Some(Expression::Whole(total))
+        let factors = self.plate_factors_across();
+        let total = self.bolts_on(self.plate()).ultimate(factors);
+        Expression::Whole(total.unwrap())
     }
 
     fn gross_section_tied(&self) -> Expression
         ensures { result ≡ gross_plate_tying self.now.joint }
     {
-        let fu = ultimate_strength(self.joint.steels.plate) as u64;
-        Expression::Whole(Ratio {
-            over: self.joint.parts.tp as u64 * self.depth() * fu,
-            under: 10,
-        })
+        Expression::Whole(self.plate().at_rupture(self.depth(), 10))
     }
 
     fn net_section_tied(&self) -> Expression
         ensures { result ≡ net_plate_tying self.now.joint }
     {
-        let fu = ultimate_strength(self.joint.steels.plate) as u64;
-        Expression::Whole(Ratio {
-            over: 9 * self.joint.parts.tp as u64 * self.column().net_depth() * fu,
-            under: 100,
-        })
+        let net = self.column().net_depth();
+        Expression::Whole(self.plate().at_rupture(9 * net, 100))
     }
 
-    fn web_bearing_tied(&self) -> Option<Expression>
-        ensures { result ≡ Some (web_bearing_tying self.now.joint) }
+    fn web_bearing_tied(&self) -> Expression
+        ensures { result ≡ web_bearing_tying self.now.joint }
     {
-        let (k, a) = self.web_factors_across();
-        let total = self.web_bolts().ultimate(k, a)?;
-        Some(Expression::Whole(total))
+        let factors = self.web_factors_across();
+        let total = self.bolts_on(self.web()).ultimate(factors);
+        Expression::Whole(total.unwrap())
     }
 
     fn gross_web_tied(&self) -> Expression
         ensures { result ≡ gross_web_tying self.now.joint }
     {
-        let fu = ultimate_strength(self.joint.steels.web) as u64;
-        Expression::Whole(Ratio {
-            over: self.joint.parts.tw as u64 * self.joint.demands.db as u64 * fu,
-            under: 10,
-        })
+        Expression::Whole(self.web().at_rupture(self.joint.demands.db, 10))
     }
 
     fn net_web_tied(&self) -> Expression
         ensures { result ≡ net_web_tying self.now.joint }
     {
         let b = self.joint.bolts;
-        let fu = ultimate_strength(self.joint.steels.web) as u64;
-        let left = self.joint.demands.db as u64 - b.rows as u64 * hole(b.bolt) as u64;
-        Expression::Whole(Ratio {
-            over: 9 * self.joint.parts.tw as u64 * left * fu,
-            under: 100,
-        })
+        let net = self.joint.demands.db - b.rows * hole(b.bolt);
+        Expression::Whole(self.web().at_rupture(9 * net, 100))
     }
 
     // The expression of a shear mode, and nothing where it does not bind.
+    #[tactic(auto, using(std::proofs::lemmas::Bool::Decides::nat_tests), unfolding(crate::specs::FinModes::shear_modes))]
     fn shear_expression(&self, mode: u32) -> Option<Expression>
         ensures { result ≡ numbered None 1 (shear_modes self.now.joint) mode }
     {
         match mode {
             1 => Some(self.bolts_in_shear()),
-            2 => self.plate_in_bearing(),
+            2 => Some(self.plate_in_bearing()),
             3 => Some(self.gross_section()),
             4 => Some(self.net_section()),
             5 => Some(self.tearing_block()),
-            6 => {
-                if self.is_shallow() {
-                    Some(self.bending())
-                } else {
-                    None
-                }
-            }
+            6 => self.is_shallow().then_some(self.bending()),
             // buckling of a long fin plate: no such plate is admitted
             7 => None,
-            8 => self.web_in_bearing(),
+            8 => Some(self.web_in_bearing()),
             9 => Some(self.gross_web_section()),
             10 => Some(self.net_web_section()),
             11 => Some(self.tearing_web_block()),
@@ -392,15 +353,16 @@ impl Fin {
     }
 
     // The expression of a tying mode.
+    #[tactic(auto, using(std::proofs::lemmas::Bool::Decides::nat_tests), unfolding(crate::specs::FinModes::tying_modes))]
     fn tying_expression(&self, mode: u32) -> Option<Expression>
         ensures { result ≡ numbered None 21 (tying_modes self.now.joint) mode }
     {
         match mode {
             21 => Some(self.bolts_tied()),
-            22 => self.plate_bearing_tied(),
+            22 => Some(self.plate_bearing_tied()),
             23 => Some(self.gross_section_tied()),
             24 => Some(self.net_section_tied()),
-            25 => self.web_bearing_tied(),
+            25 => Some(self.web_bearing_tied()),
             26 => Some(self.gross_web_tied()),
             27 => Some(self.net_web_tied()),
             _ => None,

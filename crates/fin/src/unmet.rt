@@ -16,7 +16,8 @@ impl Fin {
         let d = self.joint.demands;
         let phi = d.phi as u64;
         let z = self.joint.layout.z as u64;
-        let reach = 2000000 * self.joint.parts.e2b as u64 + (self.depth() + 2 * d.he as u64) * phi;
+        let reach = 2000000 * self.joint.parts.e2b as u64
+            + (self.depth() as u64 + 2 * d.he as u64) * phi;
         reach * reach < 4 * (z * z) * (1000000000000 + phi * phi)
     }
 
@@ -25,12 +26,8 @@ impl Fin {
         ensures { result ≡ ductile_joint self.now.joint }
     {
         let bolts = self.bolts_total();
-        let Some((_, plate)) = self.plate_totals() else {
-            return false;
-        };
-        let Some((_, web)) = self.web_totals() else {
-            return false;
-        };
+        let (_, plate) = self.plate_totals();
+        let (_, web) = self.web_totals();
         plate.at_most(bolts) || web.at_most(bolts)
     }
 
@@ -38,13 +35,11 @@ impl Fin {
     fn figure_or_nought(&self, mode: u32) -> u64
         ensures { result ≡ or_nought (printing (fin_mode self.now mode)) }
     {
-        match self.printed(mode) {
-            Some(figure) => figure,
-            None => 0,
-        }
+        self.printed(mode).unwrap_or(0)
     }
 
     // The bolts are not the weakest part, by the printed figures.
+    #[tactic(auto, unfolding(crate::specs::FinModes::shear_modes))]
     fn spares_bolts(&self) -> bool
         ensures { result ≡ bolts_spared self.now.joint }
     {
@@ -61,7 +56,7 @@ impl Fin {
         let d = self.joint.demands;
         let p = self.joint.parts;
         Requirements {
-            fits_web: self.depth() <= d.db as u64,
+            fits_web: self.depth() <= d.db,
             turns: self.turns(),
             ductile: self.is_ductile(),
             welded: is_full_strength(p.a, p.tp, self.joint.steels.plate),

@@ -9,9 +9,9 @@ use Rattle.header.specs.declared.header_joint.HeaderJoint.{HeaderJoint}
 
 abbrev pub header_kind : Ghosts Header HeaderJoint
 header_kind = record {
-  fields = 20;
-  shear = 8;
-  tying = 0;
+  FIELDS = 20;
+  SHEAR_MODES = 8;
+  TYING_MODES = 0;
   admission = header_admission;
   joint = λ h. h.joint;
   binding = header_binds;

@@ -3,13 +3,13 @@ use Rattle.std.specs.Prelude.{◌≡◌, ℕ, ◌-◌, ◌*◌, ◌≤◌, true,
 use Rattle.std.proofs.Math.Nat.{mul-le-mul}
 use native.Mathlib.Omega.{arith}
 use Rattle.std.proofs.lemmas.Bool.{cond_both}
+use Rattle.std.proofs.lemmas.Bool.Decides.{nat_tests}
 use Rattle.resistance.specs.Fractions.{◌÷◌, smaller}
 use Rattle.resistance.proofs.Held.{sum_held}
 use Rattle.resistance.proofs.Ratios.{Proper, smaller_proper}
 use Rattle.components.specs.Bears.{k, u, w, most}
 use Rattle.components.specs.Tabled.{fu, hole_of}
 use Rattle.components.proofs.BearParts.{bear_proper}
-use Rattle.std.proofs.lemmas.Bool.Decides.{nat_tests}
 use Rattle.joint.specs.Checked.{within}
 use Rattle.joint.specs.Meaning.{Meaning}
 use Rattle.joint.specs.Modes.{printing, Below, Every, SoundMode, HeldMode}

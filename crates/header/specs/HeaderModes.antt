@@ -4,7 +4,7 @@ use Rattle.resistance.specs.Fractions.{◌÷◌, smaller}
 use Rattle.resistance.specs.declared.expression.Expression.{Expression}
 use Rattle.resistance.specs.declared.expression.Expression.TheVariants.{Whole, Root, Sum}
 use Rattle.resistance.specs.declared.ratio.Ratio.{Ratio}
-use Rattle.components.specs.Bears.{k, u, w, most, bear_of}
+use Rattle.components.specs.Bears.{k, u, w, most, bear_of, on_part}
 use Rattle.components.specs.Columns.{depth_by, net_by, torn_by}
 use Rattle.components.specs.Tabled.{fu, fub, hole_of, area_of, shear_of}
 use Rattle.components.specs.declared.bearing.Bearing.{Bearing}
@@ -43,10 +43,10 @@ module _ (j : HeaderJoint) where
 
   -- the bolts on the plate, and on the support
   abbrev pub on_plate : Bearing
-  on_plate = record { bolts = bolts_of; bolt = j.bolts.bolt; grade = j.bolts.grade; steel = j.steels.plate; thickness = j.parts.tp }
+  on_plate = on_part j.bolts bolts_of j.parts.tp j.steels.plate
 
   abbrev pub on_support : Bearing
-  on_support = record { bolts = bolts_of; bolt = j.bolts.bolt; grade = j.bolts.grade; steel = j.steels.supp; thickness = j.parts.ts }
+  on_support = on_part j.bolts bolts_of j.parts.ts j.steels.supp
 
   -- k of the support: a supporting web has no edge
   abbrev pub support_edge : Ratio

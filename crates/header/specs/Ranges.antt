@@ -1,6 +1,6 @@
 -- What an admitted header plate keeps, as plain facts, from its checks.
 use Rattle.std.specs.Prelude.{◌≡◌, ◌*◌, ◌≤◌, true}
-use Rattle.std.proofs.lemmas.Bool.{ltb-true, leb-true}
+use Rattle.std.proofs.lemmas.Bool.{leb-true}
 use Rattle.components.specs.Tabled.{fu, fub, hole_of}
 use Rattle.components.proofs.Listed.{Range, steel_range, class_range, bolt_range}
 use Rattle.joint.specs.Checked.{none_of}
@@ -42,11 +42,11 @@ ranges j h =
     let demands = parts.1.1.1.1.1 in
     let apart = demands.1.1.1.1 in
     record {
-      plate = steel_range j.steels.plate (ltb-true _ _ steels.0);
-      web = steel_range j.steels.web (ltb-true _ _ steels.1.0);
-      supp = steel_range j.steels.supp (ltb-true _ _ steels.1.1.0);
-      bolt = bolt_range j.bolts.bolt (ltb-true _ _ bolts.0);
-      grade = class_range j.bolts.grade (ltb-true _ _ bolts.1.0);
+      plate = steel_range j.steels.plate steels.0;
+      web = steel_range j.steels.web steels.1.0;
+      supp = steel_range j.steels.supp steels.1.1.0;
+      bolt = bolt_range j.bolts.bolt bolts.0;
+      grade = class_range j.bolts.grade bolts.1.0;
       rows_low = low 2 10 _ bolts.1.1.1.0;
       rows_high = high 2 10 _ bolts.1.1.1.0;
       e1_high = high 1 150 _ layout.0;

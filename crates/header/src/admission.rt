@@ -1,13 +1,13 @@
 // Admission of a header plate: one function for each group of fields, in the order of the card, then the least distances.
 ghost use Rattle.std.specs.Prelude.{◌≡◌};
+ghost use Rattle.components.specs.Tabled.{hole_of};
 ghost use Rattle.joint.specs.Checked.{of_list};
-ghost use Rattle.header.specs.FieldChecks.{steel_checks, bolt_checks, layout_checks, part_checks, demand_checks, distance_checks};
+ghost use Rattle.header.specs.FieldChecks.{steel_checks, layout_checks, part_checks, demand_checks, distance_checks};
 ghost use Rattle.header.specs.HeaderAdmission.{outcomes};
 
 use crate::header_joint::{Demands, HeaderJoint, Layout, Parts, Steels};
-use components::bolts::Bolts;
-use components::tables::{hole, is_bolt, is_class, is_steel};
-use joint::checks::{allowed, apart, is_within};
+use components::tables::{hole, is_steel};
+use joint::checks::{allowed, apart, check_bolts, is_within};
 use joint::fault::JointFault;
 
 fn check_steels(s: Steels) -> Result<(), JointFault>
@@ -16,15 +16,6 @@ fn check_steels(s: Steels) -> Result<(), JointFault>
     allowed(is_steel(s.plate), 1)?;
     allowed(is_steel(s.web), 2)?;
     allowed(is_steel(s.supp), 3)
-}
-
-fn check_bolts(b: Bolts) -> Result<(), JointFault>
-    ensures { result ≡ of_list (bolt_checks b) }
-{
-    allowed(is_bolt(b.bolt), 4)?;
-    allowed(is_class(b.grade), 5)?;
-    allowed(is_within(0, 1, b.plane), 6)?;
-    allowed(is_within(2, 10, b.rows), 7)
 }
 
 fn check_layout(l: Layout) -> Result<(), JointFault>
@@ -55,9 +46,12 @@ fn check_demands(d: Demands) -> Result<(), JointFault>
     allowed(is_within(0, 10000000, d.v), 20)
 }
 
-fn check_distances(d0: u32, l: Layout, p: Parts) -> Result<(), JointFault>
-    ensures { result ≡ of_list (distance_checks d0 l p) }
+fn check_distances(j: HeaderJoint) -> Result<(), JointFault>
+    ensures { result ≡ of_list (distance_checks (hole_of j.bolts.bolt) j.layout j.parts) }
 {
+    let d0 = hole(j.bolts.bolt);
+    let l = j.layout;
+    let p = j.parts;
     apart(12, d0, l.e1, 8)?;
     apart(22, d0, l.p1, 9)?;
     apart(12, d0, l.e2, 10)?;
@@ -73,9 +67,9 @@ pub(crate) fn check_all(j: HeaderJoint) -> Result<(), JointFault>
     ensures { result ≡ outcomes j }
 {
     check_steels(j.steels)?;
-    check_bolts(j.bolts)?;
+    check_bolts(j.bolts, 4)?;
     check_layout(j.layout)?;
     check_parts(j.parts)?;
     check_demands(j.demands)?;
-    check_distances(hole(j.bolts.bolt), j.layout, j.parts)
+    check_distances(j)
 }

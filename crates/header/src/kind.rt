@@ -9,7 +9,6 @@ ghost use Rattle.header.specs.HeaderMeans.{header_means};
 use crate::admission::check_all;
 use crate::header::Header;
 use crate::header_joint::HeaderJoint;
-use joint::checks::is_within;
 use joint::fault::JointFault;
 use joint::kind::Kind;
 
@@ -22,11 +21,11 @@ impl Kind for Header {
 
     const TYING_MODES: u32 = 0;
 
-    ghost fields = { 20 };
+    ghost FIELDS = { 20 };
 
-    ghost shear = { 8 };
+    ghost SHEAR_MODES = { 8 };
 
-    ghost tying = { 0 };
+    ghost TYING_MODES = { 0 };
 
     ghost admission = { header_admission };
 
@@ -42,34 +41,21 @@ impl Kind for Header {
 
     ghost meaning = { header_means };
 
-    fn field_count() -> u32 {
-        Self::FIELDS
-    }
-
-    fn shear_count() -> u32 {
-        Self::SHEAR_MODES
-    }
-
-    fn tying_count() -> u32 {
-        Self::TYING_MODES
-    }
-
     fn admit(given: HeaderJoint) -> Result<Header, JointFault> {
-        match check_all(given) {
-            Ok(()) => Ok(Header { joint: given }),
-            Err(fault) => Err(fault),
-        }
+        check_all(given)?;
+        Ok(Header { joint: given })
     }
 
     fn given(&self) -> HeaderJoint {
         self.joint
     }
 
+    #[tactic(auto, using(std::proofs::lemmas::Bool::Decides::nat_tests), unfolding(crate::specs::HeaderModes::shear_binds))]
     fn binds(&self, mode: u32) -> bool {
-        if mode == 7 {
-            self.is_shallow()
-        } else {
-            is_within(1, 8, mode)
+        match mode {
+            7 => self.is_shallow(),
+            1..=8 => true,
+            _ => false,
         }
     }
 

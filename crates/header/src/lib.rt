@@ -6,5 +6,4 @@ pub mod header;
 pub mod header_joint;
 pub mod kind;
 mod modes;
-pub mod sheet;
 mod unmet;

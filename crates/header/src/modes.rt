@@ -1,17 +1,16 @@
 // The eight modes of a header plate, each as the expression of its resistance.
 ghost use Rattle.std.specs.Prelude.{◌≡◌, ◌≤◌, Some};
+ghost use Rattle.components.specs.Bears.{on_part};
 ghost use Rattle.components.specs.Tabled.{hole_of};
-ghost use Rattle.header.specs.HeaderModes.{bolts_of, depth_of, shallow, sides_of, on_plate, on_support, support_edge, bolt_shear, plate_bearing, support_bearing, gross_plate, net_plate, block_tearing, plate_bending, beam_web, header_mode};
+ghost use Rattle.header.specs.HeaderModes.{bolts_of, depth_of, shallow, sides_of, support_edge, bolt_shear, plate_bearing, support_bearing, gross_plate, net_plate, block_tearing, plate_bending, beam_web, header_mode};
 
 use crate::header::Header;
-use components::bearing::{Bearing, edge_factor, end_factor, pitch_factor};
+use components::bearing::{Bearing, Factors, MOST, edge_factor, end_factor, pitch_factor};
 use components::column::Column;
-use components::tables::{bolt_strength, hole, shear_area, shear_factor, ultimate_strength};
+use components::part::Part;
+use components::tables::hole;
 use resistance::expression::Expression;
 use resistance::ratio::Ratio;
-
-// No k exceeds 2.5, and a supporting web, which has no edge, has that.
-const MOST: Ratio = Ratio { over: 5, under: 2 };
 
 impl Header {
     // m: all bolts, in two columns.
@@ -38,7 +37,7 @@ impl Header {
     }
 
     // hp: the depth of the plate.
-    pub(crate) fn depth(&self) -> u64
+    pub(crate) fn depth(&self) -> u32
         ensures value { result ≡ depth_of self.now.joint }
         ensures bound { result ≤ 2100 }
     {
@@ -49,35 +48,47 @@ impl Header {
     pub(crate) fn is_shallow(&self) -> bool
         ensures { result ≡ shallow self.now.joint }
     {
-        25 * self.depth() < 34 * self.joint.layout.p2 as u64
+        25 * self.depth() < 34 * self.joint.layout.p2
     }
 
-    fn plate_bolts(&self) -> Bearing
-        ensures { result ≡ on_plate self.now.joint }
+    pub(crate) fn plate(&self) -> Part
+        ensures thickness { result.thickness ≡ self.now.joint.parts.tp }
+        ensures steel { result.steel ≡ self.now.joint.steels.plate }
     {
-        let b = self.joint.bolts;
-        Bearing {
-            bolts: self.bolt_count(),
-            bolt: b.bolt,
-            grade: b.grade,
-            steel: self.joint.steels.plate,
+        Part {
             thickness: self.joint.parts.tp,
+            steel: self.joint.steels.plate,
         }
     }
 
-    fn support_bolts(&self) -> Bearing
-        ensures { result ≡ on_support self.now.joint }
+    fn web(&self) -> Part
+        ensures thickness { result.thickness ≡ self.now.joint.parts.tw }
+        ensures steel { result.steel ≡ self.now.joint.steels.web }
     {
-        let b = self.joint.bolts;
-        Bearing {
-            bolts: self.bolt_count(),
-            bolt: b.bolt,
-            grade: b.grade,
-            steel: self.joint.steels.supp,
-            thickness: self.joint.parts.ts,
+        Part {
+            thickness: self.joint.parts.tw,
+            steel: self.joint.steels.web,
         }
     }
 
+    pub(crate) fn support(&self) -> Part
+        ensures thickness { result.thickness ≡ self.now.joint.parts.ts }
+        ensures steel { result.steel ≡ self.now.joint.steels.supp }
+    {
+        Part {
+            thickness: self.joint.parts.ts,
+            steel: self.joint.steels.supp,
+        }
+    }
+
+    // All bolts, bearing on a part.
+    fn bolts_on(&self, part: Part) -> Bearing
+        ensures { result ≡ on_part self.now.joint.bolts (bolts_of self.now.joint) part.thickness part.steel }
+    {
+        self.joint.bolts.on_part(self.bolt_count(), part)
+    }
+
+    // k of the support: a supporting web, which has no edge, has the most.
     fn support_factor(&self) -> Ratio
         ensures { result ≡ support_edge self.now.joint }
     {
@@ -90,56 +101,49 @@ impl Header {
     fn bolts_in_shear(&self) -> Expression
         ensures { result ≡ bolt_shear self.now.joint }
     {
-        let b = self.joint.bolts;
-        let s = shear_factor(b.grade, b.plane) as u64;
-        let fub = bolt_strength(b.grade) as u64;
-        let area = shear_area(b.bolt, b.plane) as u64;
-        Expression::Whole(Ratio {
-            over: 8 * self.bolt_count() as u64 * s * fub * area,
-            under: 125,
-        })
+        Expression::Whole(self.joint.bolts.in_shear(self.bolt_count(), 8, 125))
     }
 
-    fn plate_in_bearing(&self) -> Option<Expression>
-        ensures { result ≡ Some (plate_bearing self.now.joint) }
+    fn plate_in_bearing(&self) -> Expression
+        ensures { result ≡ plate_bearing self.now.joint }
     {
         let d0 = hole(self.joint.bolts.bolt);
         let l = self.joint.layout;
-        let a = end_factor(d0, l.e1).lesser(pitch_factor(d0, l.p1));
-        let total = self.plate_bolts().total(edge_factor(d0, l.e2), a)?;
-        Some(Expression::Whole(total))
+        let factors = Factors {
+            k: edge_factor(d0, l.e2),
+            alpha: end_factor(d0, l.e1).lesser(pitch_factor(d0, l.p1)),
+        };
+        let total = self.bolts_on(self.plate()).total(factors);
+        Expression::Whole(total.unwrap())
     }
 
-    fn support_in_bearing(&self) -> Option<Expression>
-        ensures { result ≡ Some (support_bearing self.now.joint) }
+    fn support_in_bearing(&self) -> Expression
+        ensures { result ≡ support_bearing self.now.joint }
     {
         let d0 = hole(self.joint.bolts.bolt);
-        let a = pitch_factor(d0, self.joint.layout.p1);
-        let total = self.support_bolts().total(self.support_factor(), a)?;
-        Some(Expression::Whole(total))
+        let factors = Factors {
+            k: self.support_factor(),
+            alpha: pitch_factor(d0, self.joint.layout.p1),
+        };
+        let total = self.bolts_on(self.support()).total(factors);
+        Expression::Whole(total.unwrap())
     }
 
     fn gross_section(&self) -> Expression
         ensures { result ≡ gross_plate self.now.joint }
     {
-        Expression::Root(Ratio {
-            over: 20 * self.depth() * self.joint.parts.tp as u64 * self.joint.steels.plate as u64,
-            under: 127,
-        })
+        Expression::Root(self.plate().at_yield(20 * self.depth(), 127))
     }
 
     fn net_section(&self) -> Expression
         ensures { result ≡ net_plate self.now.joint }
     {
-        let fu = ultimate_strength(self.joint.steels.plate) as u64;
-        Expression::Root(Ratio {
-            over: 4 * self.joint.parts.tp as u64 * self.column().net_depth() * fu,
-            under: 25,
-        })
+        let net = self.column().net_depth();
+        Expression::Root(self.plate().at_rupture(4 * net, 25))
     }
 
     // How many sides of the block carry tension: both, unless the plate bends.
-    fn torn_sides(&self) -> u64
+    fn torn_sides(&self) -> u32
         ensures value { result ≡ sides_of self.now.joint }
         ensures bound { result ≤ 2 }
     {
@@ -149,19 +153,10 @@ impl Header {
     fn tearing_block(&self) -> Expression
         ensures { result ≡ block_tearing self.now.joint }
     {
-        let tp = self.joint.parts.tp as u64;
-        let plate = self.joint.steels.plate;
-        let fu = ultimate_strength(plate) as u64;
-        let torn = 2 * self.joint.layout.e2 as u64 - hole(self.joint.bolts.bolt) as u64;
+        let torn = 2 * self.joint.layout.e2 - hole(self.joint.bolts.bolt);
         Expression::Sum(
-            Ratio {
-                over: self.torn_sides() * tp * torn * fu,
-                under: 25,
-            },
-            Ratio {
-                over: tp * plate as u64 * self.column().torn_length(),
-                under: 10,
-            },
+            self.plate().at_rupture(self.torn_sides() * torn, 25),
+            self.plate().at_yield(self.column().torn_length(), 10),
         )
     }
 
@@ -169,39 +164,29 @@ impl Header {
         ensures { result ≡ plate_bending self.now.joint }
     {
         let hp = self.depth();
-        Expression::Whole(Ratio {
-            over: self.joint.parts.tp as u64 * hp * hp * self.joint.steels.plate as u64,
-            under: 3 * (10 * self.joint.layout.p2 as u64 - self.joint.parts.tw as u64),
-        })
+        let gap = 10 * self.joint.layout.p2 - self.joint.parts.tw;
+        Expression::Whole(self.plate().at_yield(hp * hp, 3 * gap as u64))
     }
 
     fn web_in_shear(&self) -> Expression
         ensures { result ≡ beam_web self.now.joint }
     {
-        Expression::Root(Ratio {
-            over: self.depth() * self.joint.parts.tw as u64 * self.joint.steels.web as u64,
-            under: 10,
-        })
+        Expression::Root(self.web().at_yield(self.depth(), 10))
     }
 
     // The expression of a mode, and nothing where it does not bind.
+    #[tactic(auto, using(std::proofs::lemmas::Bool::Decides::nat_tests), unfolding(crate::specs::HeaderModes::shear_modes))]
     pub(crate) fn expression(&self, mode: u32) -> Option<Expression>
         ensures { result ≡ header_mode self.now mode }
     {
         match mode {
             1 => Some(self.bolts_in_shear()),
-            2 => self.plate_in_bearing(),
-            3 => self.support_in_bearing(),
+            2 => Some(self.plate_in_bearing()),
+            3 => Some(self.support_in_bearing()),
             4 => Some(self.gross_section()),
             5 => Some(self.net_section()),
             6 => Some(self.tearing_block()),
-            7 => {
-                if self.is_shallow() {
-                    Some(self.bending())
-                } else {
-                    None
-                }
-            }
+            7 => self.is_shallow().then_some(self.bending()),
             8 => Some(self.web_in_shear()),
             _ => None,
         }

@@ -1,9 +1,8 @@
--- `bending`: the product fits.
-use Rattle.std.proofs.Common.{mul-le-mul, arith}
-use Rattle.fin.specs.Ranges.{ranges}
+-- `bending`: as the sheet writes the product.
+use Rattle.std.proofs.Common.{◌*◌}
+use Rattle.components.proofs.Parts.{bent}
+use Rattle.fin.specs.FinModes.{depth_of}
 use Rattle.fin.proofs.fin.Fin.bending.Goals as goal
 
-pub overflow_mul-result-3 : goal.overflow_mul-result-3
-overflow_mul-result-3 c =
-    let a = ranges c.args.self.now.joint c.args.self.now.ok in
-    omega (arith, mul-le-mul (mul-le-mul (mul-le-mul a.tp_high c.depth-hp.ensures.bound) c.depth-hp.ensures.bound) a.plate.high)
+pub returns : goal.returns
+returns c = let j = c.args.self.now.joint in cc (bent j.parts.tp (depth_of j) j.steels.plate (60 * j.layout.z))

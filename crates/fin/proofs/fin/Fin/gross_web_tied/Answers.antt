@@ -1,9 +1,7 @@
--- `gross_web_tied`: the product fits.
-use Rattle.std.proofs.Common.{mul-le-mul, arith}
-use Rattle.fin.specs.Ranges.{ranges}
+-- `gross_web_tied`: as the sheet writes the product.
+use Rattle.components.proofs.Parts.{across}
+use Rattle.components.specs.Tabled.{fu}
 use Rattle.fin.proofs.fin.Fin.gross_web_tied.Goals as goal
 
-pub overflow_mul-result-2 : goal.overflow_mul-result-2
-overflow_mul-result-2 c =
-    let a = ranges c.args.self.now.joint c.args.self.now.ok in
-    omega (arith, mul-le-mul (mul-le-mul a.tw_high a.db_high) c.ultimate_strength-fu.ensures.bound)
+pub returns : goal.returns
+returns c = let j = c.args.self.now.joint in cc (across j.parts.tw j.demands.db (fu j.steels.web) 10)

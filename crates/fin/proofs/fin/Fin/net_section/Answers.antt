@@ -1,14 +1,8 @@
--- `net_section`: the products fit.
-use Rattle.std.proofs.Common.{mul-le-mul, arith}
-use Rattle.fin.specs.Ranges.{ranges}
+-- `net_section`: as the sheet writes the product.
+use Rattle.components.proofs.Parts.{times_across}
+use Rattle.components.specs.Tabled.{fu}
+use Rattle.fin.specs.FinModes.{net_of}
 use Rattle.fin.proofs.fin.Fin.net_section.Goals as goal
 
-pub overflow_mul-result-2 : goal.overflow_mul-result-2
-overflow_mul-result-2 c =
-    let a = ranges c.args.self.now.joint c.args.self.now.ok in
-    omega (arith, mul-le-mul a.tp_high c.net_depth.ensures.bound)
-
-pub overflow_mul-result-3 : goal.overflow_mul-result-3
-overflow_mul-result-3 c =
-    let a = ranges c.args.self.now.joint c.args.self.now.ok in
-    omega (arith, mul-le-mul (mul-le-mul a.tp_high c.net_depth.ensures.bound) c.ultimate_strength-fu.ensures.bound)
+pub returns : goal.returns
+returns c = let j = c.args.self.now.joint in cc (times_across 2 j.parts.tp (net_of j) (fu j.steels.plate) 25)

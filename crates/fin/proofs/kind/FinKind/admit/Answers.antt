@@ -1,13 +1,16 @@
 -- `admit` answers the admitted fin plate or the first fault.
-use Rattle.std.proofs.Common.{sym}
+use Rattle.std.proofs.Common.{sym, rules}
 use Rattle.fin.specs.Tried.{no_fault, refused, accepted}
 use Rattle.fin.proofs.kind.FinKind.admit.Goals as goal
 
 pub invariant_of-result : goal.invariant_of-result
-invariant_of-result c = record { ok = no_fault _ (sym c.in-Ok.ensures) }
+invariant_of-result c = record { ok = no_fault _ (sym c.in_ok-check_all.ensures) }
 
-pub returns-in-Ok : goal.returns-in-Ok
-returns-in-Ok c = sym (accepted _)
+pub returns : goal.returns
+returns c = sym (accepted _)
 
-pub returns-in-Err : goal.returns-in-Err
-returns-in-Err c = sym (refused _ _ (sym c.in-Err.ensures))
+pub returns-in_err-check_all : goal.returns-in_err-check_all
+returns-in_err-check_all c =
+    let fault = c.in_err-check_all.field-0.0 in
+    let h = refused c.args.given fault (sym c.in_err-check_all.ensures) in
+    search rules

@@ -1,0 +1,7 @@
+-- `plate`: the plate of an admitted joint is no thicker and no stronger than a part may be.
+use Rattle.std.proofs.Common.{arith}
+use Rattle.fin.specs.Ranges.{ranges}
+use Rattle.fin.proofs.fin.Fin.plate.Goals as goal
+
+pub invariant_of-result : goal.invariant_of-result
+invariant_of-result c = let a = ranges c.args.self.now.joint c.args.self.now.ok in record { thickest = omega arith; strongest = omega arith }
