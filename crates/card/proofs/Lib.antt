@@ -3,3 +3,4 @@ pub mod Steps
 pub mod Laws
 pub mod Spread
 pub mod Joints
+pub mod InTurn

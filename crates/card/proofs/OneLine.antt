@@ -1,24 +1,16 @@
 -- What one line says: its digits, its key, and where it ends.
-use Rattle.std.proofs.Common.{◌≡◌, ℕ, ◌+◌, ◌-◌, ◌*◌, ◌^◌, ◌<◌, ◌≤◌, true, List, [], ◌∷◌, ◌++◌, length, get_or, take, drop, Some, None, decimal, Option, sym, ap, ◌∙◌, subst, ⊎_elim, arith, Bor, MatchOption}
+use Rattle.std.proofs.Common.{◌≡◌, ℕ, ◌+◌, ◌^◌, ◌<◌, ◌≤◌, true, List, [], ◌∷◌, ◌++◌, length, get_or, take, drop, Some, None, decimal, Option, sym, ap, ◌∙◌, subst, arith, Bor, MatchOption}
 use Rattle.std.specs.Str.Parse.{digits_value, AllDigits}
-use Rattle.std.specs.Int.{IsInRange, IsOutOfRange}
 use Rattle.std.specs.Char.{digit_value}
 use Rattle.std.specs.Str.{all_ascii_digits}
 use Rattle.std.proofs.lemmas.Fmt.{decimal-digits_value}
-use Rattle.std.proofs.lemmas.Int.Digits.{digits_value_more, digits_more}
-use Rattle.std.proofs.lemmas.Bool.Decides.{nat_tests}
-use Rattle.std.proofs.ByRecursion.{All-from_get_or}
-use Rattle.std.proofs.lemmas.List.{length-take-le, get_or-take, take_all, take-append-drop, drop_more, append_assoc, append_cancel_left, take_at, length_push, length-append}
+use Rattle.std.proofs.lemmas.List.{length-take-le, take_all, append_assoc, append_cancel_left, take_at, length_push, length-append}
 use Rattle.std.proofs.lemmas.Str.Parse.{IsNumeralModel, numerals_by_value, tells_all_ascii_digits, digits_value_short, digit_at}
-use Rattle.card.specs.Text.{Number, NoFeed, FirstLine, TookLine}
+use Rattle.std.proofs.lemmas.Str.{digit_value_digit}
+use Rattle.card.specs.Text.{Number, FirstLine, TookLine}
 
 pub own : IsNumeralModel (λ ds. all_ascii_digits ds ≡ true) (digits_value 10)
 own = numerals_by_value _ tells_all_ascii_digits
-
-pub no_feed_front : (bs : List ℕ) (n : ℕ) → n ≤ length bs → ((k : ℕ) → k < n → get_or bs k 0 ≡ 10 → ⊥) → NoFeed (take n bs)
-no_feed_front bs n h f =
-    let e = length-take-le n bs h in
-    All-from_get_or (λ b. b ≡ 10 → ⊥) (take n bs) 0 (λ i l q. let below : i < n = omega arith in f i below (sym (get_or-take n bs i 0 below) ∙ q))
 
 pub number_value : (ds : List ℕ) → Number ds → (digits_value 10 ds < 10 ^ 8) × (ds ≡ decimal (digits_value 10 ds))
 number_value ds h =
@@ -26,37 +18,18 @@ number_value ds h =
     (low, sym (decimal-digits_value own ds h.digits h.some h.lead (omega arith)))
 
 -- the number so far has few digits
-pub few : (ds : List ℕ) (i n : ℕ) → i ≤ length ds → length ds ≤ 8 → i < length ds → AllDigits 10 (take i ds) → n ≡ digits_value 10 (take i ds) → n < 10 ^ 7
-few ds i n h short l d e =
-    let long = length-take-le i ds h in
-    let below = digits_value_short own (take i ds) 7 (own.from (take i ds) d) (omega arith) in
-    omega arith
-
-digit_is : (c : ℕ) → IsInRange 48 57 c → (digit_value c < 10) × (digit_value c ≡ c - 48)
-digit_is c h = (grind (arith, nat_tests), grind (arith, nat_tests))
-
--- one digit more
-pub digit_more : (ds : List ℕ) (i n : ℕ) → i < length ds → IsInRange 48 57 (get_or ds i 0) → AllDigits 10 (take i ds) × (n ≡ digits_value 10 (take i ds)) → AllDigits 10 (take (i + 1) ds) × (n * 10 + (get_or ds i 0 - 48) ≡ digits_value 10 (take (i + 1) ds))
-digit_more ds i n l h was =
-    let d = digit_is (get_or ds i 0) h in
-    let v = digits_value_more 10 ds i l in
-    (digits_more 10 ds i l was.0 d.0, omega (arith, d.1, was.1))
+pub few : (ds : List ℕ) (i n : ℕ) → i < length ds → length ds ≤ 8 → AllDigits 10 (take i ds) × (n ≡ digits_value 10 (take i ds)) → n < 10 ^ 7
+few ds i n l short was =
+    let long = length-take-le i ds (omega arith) in
+    let below = digits_value_short own (take i ds) 7 (own.from (take i ds) was.0) (omega arith) in
+    omega (arith, was.1)
 
 pub digits_all : (ds : List ℕ) (i n : ℕ) → length ds ≤ i → AllDigits 10 (take i ds) × (n ≡ digits_value 10 (take i ds)) → (all_ascii_digits ds ≡ true) × (n ≡ digits_value 10 ds)
 digits_all ds i n l was = let e = take_all i ds l in (own.from ds (subst (AllDigits 10) e was.0), was.1 ∙ ap (digits_value 10) e)
 
 -- a byte that is no digit
-pub not_number : (ds : List ℕ) (i : ℕ) → i < length ds → IsOutOfRange 48 57 (get_or ds i 0) → Number ds → ⊥
-not_number ds i l out h = let d = digit_at ds i (own.to ds h.digits) l in ⊎_elim (λ q. omega arith) (λ q. omega arith) out
-
--- the first line feed cuts the first line off
-pub cut_line : (text : List ℕ) (n : ℕ) → n < length text → get_or text n 0 ≡ 10 → ((k : ℕ) → k < n → get_or text k 0 ≡ 10 → ⊥) → FirstLine text (take n text) (drop (length (take n text) + 1) text)
-cut_line text n l e h =
-    let long = length-take-le n text (omega arith) in
-    rw long (record {
-      split = sym (take-append-drop n text) ∙ ap (λ (r : List ℕ). take n text ++ r) (drop_more text n 0 l ∙ ap (λ (b : ℕ). b ∷ drop (n + 1) text) e);
-      whole = no_feed_front text n (omega arith) h;
-    })
+pub not_number : (ds : List ℕ) (i : ℕ) → i < length ds → (digit_value (get_or ds i 0) < 10 → ⊥) → Number ds → ⊥
+not_number ds i l out h = let d = digit_at ds i (own.to ds h.digits) l in out (omega (arith, digit_value_digit (get_or ds i 0) d, d))
 
 -- a first line that is the key, = and a number
 pub took_line : (key text l ds : List ℕ) (v : ℕ) → FirstLine text l (drop (length l + 1) text) → l ≡ key ++ (61 ∷ ds) → v < 10 ^ 8 → ds ≡ decimal v → TookLine key text v (length l + 1)

@@ -1,6 +1,6 @@
--- A struct's fields, taken from a list by their places, are the front of that list.
+-- Elements taken from a list by their places, in their order, are that list.
 use Rattle.std.proofs.Common.{◌≡◌, ℕ, zero, suc, ◌+◌, ◌≤◌, List, [], ◌∷◌, length, get_or, take, drop, sym, refl, ap, ◌∙◌, add-one, arith}
-use Rattle.std.proofs.lemmas.List.{drop_more}
+use Rattle.std.proofs.lemmas.List.{drop_more, take_all}
 
 -- n elements from k on
 abbrev pub spread : ℕ → ℕ → List ℕ → List ℕ
@@ -12,5 +12,5 @@ spread_from zero k xs e = refl
 spread_from (suc n) k xs e =
     ap (λ (l : List ℕ). get_or xs k 0 ∷ l) (spread_from n (suc k) xs (omega arith) ∙ ap (λ (j : ℕ). take n (drop j xs)) (sym (add-one k))) ∙ ap (take (suc n)) (sym (drop_more xs k 0 (omega arith)))
 
-pub spread_is : (n : ℕ) (xs : List ℕ) → n ≤ length xs → spread n 0 xs ≡ take n xs
-spread_is n xs h = spread_from n 0 xs (omega arith)
+pub spread_all : (n : ℕ) (xs : List ℕ) → length xs ≡ n → spread n 0 xs ≡ xs
+spread_all n xs h = spread_from n 0 xs (omega arith) ∙ take_all n xs (omega arith)

@@ -5,3 +5,4 @@ pub mod Fins
 pub mod Headers
 pub mod Cards
 pub mod Reference
+pub mod InTurn

@@ -1,7 +1,7 @@
 -- The lines of a card. A text is a list of bytes: 10 is the line feed, 61 is =, 48 is the digit 0.
-use Rattle.std.specs.Prelude.{◌≡◌, ℕ, ◌+◌, ◌^◌, ◌<◌, ◌≤◌, Bool, true, not, ◌&&◌, List, [], ◌∷◌, ◌++◌, map, length, get_or, take, decimal, ◌==◌, ◌≢◌, slice_index_or}
+use Rattle.std.specs.Prelude.{◌≡◌, ℕ, ◌+◌, ◌^◌, ◌<◌, ◌≤◌, Bool, true, not, List, [], ◌∷◌, ◌++◌, map, length, get_or, take, decimal, ◌==◌, ◌≢◌, slice_index_or}
 use Rattle.std.specs.Borrow.{Bor}
-use Rattle.std.specs.List.{AllByRecursion}
+use Rattle.std.specs.List.{AllByRecursion, list_all}
 use Rattle.std.specs.Str.{all_ascii_digits}
 use Rattle.card.specs.declared.fault.TextFault.{TextFault}
 use Rattle.card.specs.declared.fault.TextFault.TheVariants.{NoLineFeed, NotJoint, NotKey, NotNumber}
@@ -37,12 +37,10 @@ NoFeed bs = AllByRecursion (λ b. b ≢ 10) bs
 
 -- the same as a test, for one key and for a table of keys
 abbrev pub feedless : List ℕ → Bool
-feedless [] = true
-feedless (b ∷ bs) = not (b == 10) && feedless bs
+feedless bs = list_all (λ b. not (b == 10)) bs
 
 abbrev pub all_feedless : List (List ℕ) → Bool
-all_feedless [] = true
-all_feedless (k ∷ ks) = feedless k && all_feedless ks
+all_feedless ks = list_all feedless ks
 
 -- l is the first line of text, without its line feed, and after is what follows that
 pub record FirstLine (text l after : List ℕ) : Type 0 where

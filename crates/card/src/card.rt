@@ -2,7 +2,7 @@
 ghost use Rattle.card.specs.Cards.{Reads, Unique};
 
 use crate::fault::TextFault;
-use crate::kind;
+use crate::joint_card::read_joint;
 use fin::fin_joint::FinJoint;
 use header::header_joint::HeaderJoint;
 
@@ -19,14 +19,12 @@ pub fn read_card(text: &[u8]) -> Result<(Card, usize), TextFault>
     ensures reads { Reads text.now result }
     ensures unique { Unique text.now result }
 {
-    match kind::read_joint::<HeaderJoint>(text) {
+    match read_joint::<_, HeaderJoint>(text) {
         Ok((joint, taken)) => Ok((Card::Header(joint), taken)),
-        Err(fault) => match fault {
-            TextFault::NotJoint => {
-                let (joint, taken) = kind::read_joint::<FinJoint>(text)?;
-                Ok((Card::Fin(joint), taken))
-            }
-            _ => Err(fault),
-        },
+        Err(fault) if fault == TextFault::NotJoint => {
+            let (joint, taken) = read_joint::<_, FinJoint>(text)?;
+            Ok((Card::Fin(joint), taken))
+        }
+        Err(fault) => Err(fault),
     }
 }

@@ -2,6 +2,8 @@
 ghost use Rattle.std.specs.Prelude.{◌≡◌};
 ghost use Rattle.card.specs.Codes.{code_of};
 
+use joint::fault::FaultCode;
+
 #[derive(Clone, Copy, PartialEq, Eq, Debug)]
 pub enum TextFault {
     // No line feed is left for this line.
@@ -15,15 +17,20 @@ pub enum TextFault {
 }
 
 impl TextFault {
-    // The layer, the number of the fault in it, and the line.
-    pub fn code(self) -> (u32, u32, usize)
+    // By its numbers: the place is the line.
+    pub fn code(self) -> FaultCode
         ensures { result ≡ code_of self }
     {
-        match self {
-            TextFault::NoLineFeed(line) => (1, 12, line),
-            TextFault::NotJoint => (1, 11, 1),
-            TextFault::NotKey(line) => (1, 13, line),
-            TextFault::NotNumber(line) => (1, 14, line),
+        let (number, at) = match self {
+            TextFault::NoLineFeed(line) => (12, line),
+            TextFault::NotJoint => (11, 1),
+            TextFault::NotKey(line) => (13, line),
+            TextFault::NotNumber(line) => (14, line),
+        };
+        FaultCode {
+            layer: 1,
+            number,
+            at,
         }
     }
 }

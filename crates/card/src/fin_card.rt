@@ -1,7 +1,8 @@
 // The card of a fin plate joint.
-ghost use Rattle.card.specs.Fins.{fin_keys, fin_fields};
+ghost use Rattle.std.proofs.Common.{ap, refl, rules};
+ghost use Rattle.card.specs.Fins.{fin_keys, fin_fields, fin_of};
 
-use crate::kind::{CardKind, Values};
+use crate::kind::CardKind;
 use components::bolts::Bolts;
 use fin::fin_joint::{Demands, FinJoint, Layout, Parts, Steels};
 
@@ -10,12 +11,22 @@ const FIN_KEYS: [&[u8]; 21] = [
     b"tw", b"e1b", b"e2b", b"av", b"a", b"he", b"db", b"phi", b"v", b"n",
 ];
 
-impl CardKind for FinJoint {
+impl CardKind<21> for FinJoint {
     ghost initial = { 70 };
 
     ghost keys = { fin_keys };
 
     ghost fields = { fin_fields };
+
+    ghost sized = { refl };
+
+    ghost plain = { Prim.search rules };
+
+    ghost clean = { refl };
+
+    ghost counted = { λ j. refl };
+
+    ghost only = { λ i j e. ap fin_of e };
 
     fn letter() -> u8 {
         b'F'
@@ -25,39 +36,48 @@ impl CardKind for FinJoint {
         &FIN_KEYS
     }
 
-    fn of_values(values: &Values) -> FinJoint {
+    fn of_values(values: &[u32; 21]) -> FinJoint {
+        let [
+            plate,
+            web,
+            bolt,
+            grade,
+            plane,
+            rows,
+            e1,
+            p1,
+            e2,
+            z,
+            tp,
+            tw,
+            e1b,
+            e2b,
+            av,
+            a,
+            he,
+            db,
+            phi,
+            v,
+            n,
+        ] = *values;
         FinJoint {
-            steels: Steels {
-                plate: values[0],
-                web: values[1],
-            },
+            steels: Steels { plate, web },
             bolts: Bolts {
-                bolt: values[2],
-                grade: values[3],
-                plane: values[4],
-                rows: values[5],
+                bolt,
+                grade,
+                plane,
+                rows,
             },
-            layout: Layout {
-                e1: values[6],
-                p1: values[7],
-                e2: values[8],
-                z: values[9],
-            },
+            layout: Layout { e1, p1, e2, z },
             parts: Parts {
-                tp: values[10],
-                tw: values[11],
-                e1b: values[12],
-                e2b: values[13],
-                av: values[14],
-                a: values[15],
+                tp,
+                tw,
+                e1b,
+                e2b,
+                av,
+                a,
             },
-            demands: Demands {
-                he: values[16],
-                db: values[17],
-                phi: values[18],
-                v: values[19],
-                n: values[20],
-            },
+            demands: Demands { he, db, phi, v, n },
         }
     }
 }

@@ -1,7 +1,8 @@
 // The card of a header plate joint.
-ghost use Rattle.card.specs.Headers.{header_keys, header_fields};
+ghost use Rattle.std.proofs.Common.{ap, refl, rules};
+ghost use Rattle.card.specs.Headers.{header_keys, header_fields, header_of};
 
-use crate::kind::{CardKind, Values};
+use crate::kind::CardKind;
 use components::bolts::Bolts;
 use header::header_joint::{Demands, HeaderJoint, Layout, Parts, Steels};
 
@@ -10,12 +11,22 @@ const HEADER_KEYS: [&[u8]; 20] = [
     b"tp", b"tw", b"ts", b"es", b"a", b"he", b"db", b"phi", b"v",
 ];
 
-impl CardKind for HeaderJoint {
+impl CardKind<20> for HeaderJoint {
     ghost initial = { 72 };
 
     ghost keys = { header_keys };
 
     ghost fields = { header_fields };
+
+    ghost sized = { refl };
+
+    ghost plain = { Prim.search rules };
+
+    ghost clean = { refl };
+
+    ghost counted = { λ j. refl };
+
+    ghost only = { λ i j e. ap header_of e };
 
     fn letter() -> u8 {
         b'H'
@@ -25,38 +36,40 @@ impl CardKind for HeaderJoint {
         &HEADER_KEYS
     }
 
-    fn of_values(values: &Values) -> HeaderJoint {
+    fn of_values(values: &[u32; 20]) -> HeaderJoint {
+        let [
+            plate,
+            web,
+            supp,
+            bolt,
+            grade,
+            plane,
+            rows,
+            e1,
+            p1,
+            e2,
+            p2,
+            tp,
+            tw,
+            ts,
+            es,
+            a,
+            he,
+            db,
+            phi,
+            v,
+        ] = *values;
         HeaderJoint {
-            steels: Steels {
-                plate: values[0],
-                web: values[1],
-                supp: values[2],
-            },
+            steels: Steels { plate, web, supp },
             bolts: Bolts {
-                bolt: values[3],
-                grade: values[4],
-                plane: values[5],
-                rows: values[6],
+                bolt,
+                grade,
+                plane,
+                rows,
             },
-            layout: Layout {
-                e1: values[7],
-                p1: values[8],
-                e2: values[9],
-                p2: values[10],
-            },
-            parts: Parts {
-                tp: values[11],
-                tw: values[12],
-                ts: values[13],
-                es: values[14],
-                a: values[15],
-            },
-            demands: Demands {
-                he: values[16],
-                db: values[17],
-                phi: values[18],
-                v: values[19],
-            },
+            layout: Layout { e1, p1, e2, p2 },
+            parts: Parts { tp, tw, ts, es, a },
+            demands: Demands { he, db, phi, v },
         }
     }
 }

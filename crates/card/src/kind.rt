@@ -1,15 +1,9 @@
-// The kinds of joint, and the reading of a card of any kind.
-ghost use Rattle.std.specs.Prelude.{◌≡◌, ℕ, ◌+◌, ◌≤◌, true, List, length, take, ◌≢◌};
+// The kinds of joint by their cards.
+ghost use Rattle.std.specs.Prelude.{◌≡◌, ℕ, true, List, length, ◌≢◌};
 ghost use Rattle.card.specs.Text.{all_feedless, bytes_of};
-ghost use Rattle.card.specs.Kinds.{ReadsJoint, UniqueJoint};
 
-use crate::fault::TextFault;
-use crate::lines;
-
-// Room for the values of a card, in the order of its lines: no kind has more than 32.
-pub type Values = [u32; 32];
-
-pub trait CardKind {
+// A joint whose card has `N` lines behind line 1, one for each of its fields.
+pub trait CardKind<const N: usize> {
     // The letter that line 1 ends in, the keys of the lines behind it, and the values on them.
     ghost initial: { ℕ };
 
@@ -18,28 +12,24 @@ pub trait CardKind {
     ghost fields: { Self → List ℕ };
 
     fn letter() -> u8
-        ensures named { result ≡ initial }
-        ensures plain { result ≢ 10 };
+        ensures { result ≡ initial };
 
-    // No key has a line feed, and each joint has a value for each key.
     fn key_table() -> &'static [&'static [u8]]
-        ensures table { bytes_of result.now ≡ keys }
-        ensures few { length result.now ≤ 32 }
-        ensures clean { all_feedless keys ≡ true }
-        ensures counted { (j : Self) → length (fields j) ≡ length keys };
+        ensures { bytes_of result.now ≡ keys };
 
-    // The joint that has these values, and the only one.
-    fn of_values(values: &Values) -> Self
-        ensures made { fields result ≡ take (length keys) values.now }
-        ensures only { (j : Self) → fields result ≡ fields j → result ≡ j };
-}
+    // The joint that has these values.
+    fn of_values(values: &[u32; N]) -> Self
+        ensures { fields result ≡ values.now };
 
-// The joint that the card at the front of `text` describes, and the bytes of that card.
-pub fn read_joint<J: CardKind>(text: &[u8]) -> Result<(J, usize), TextFault>
-    ensures reads { ReadsJoint J.initial J.keys J.fields text.now result }
-    ensures unique { UniqueJoint J.initial J.keys J.fields text.now result }
-{
-    let start = lines::read_kind(J::letter(), text)?;
-    let (values, taken) = lines::read_lines(J::key_table(), &text[start..])?;
-    Ok((J::of_values(&values), start + taken))
+    // There are `N` keys. Neither the letter nor a key has a line feed. Each joint has a value for each key, and no other joint
+    // has the same values.
+    ghost sized: { length keys ≡ N };
+
+    ghost plain: { initial ≢ 10 };
+
+    ghost clean: { all_feedless keys ≡ true };
+
+    ghost counted: { (j : Self) → length (fields j) ≡ length keys };
+
+    ghost only: { (i j : Self) → fields i ≡ fields j → i ≡ j };
 }

@@ -2,9 +2,11 @@
 #![tactic(auto)]
 
 pub mod card;
+pub mod cards;
 pub mod fault;
 pub mod fin_card;
 pub mod header_card;
+pub mod joint_card;
 pub mod kind;
 pub mod lines;
 pub mod reference;

@@ -25,7 +25,7 @@ pub fn reference_figures() -> [u64; 14]
 // The fields of a header card: one for each key of its text.
 pub fn header_field_count() -> usize
     ensures keys { result ≡ length header_keys }
-    ensures kind { result ≡ header_kind.fields }
+    ensures kind { result ≡ header_kind.FIELDS }
 {
     HeaderJoint::key_table().len()
 }
@@ -33,7 +33,7 @@ pub fn header_field_count() -> usize
 // The same of a fin card.
 pub fn fin_field_count() -> usize
     ensures keys { result ≡ length fin_keys }
-    ensures kind { result ≡ fin_kind.fields }
+    ensures kind { result ≡ fin_kind.FIELDS }
 {
     FinJoint::key_table().len()
 }

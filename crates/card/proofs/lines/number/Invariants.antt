@@ -3,5 +3,5 @@ use Rattle.std.proofs.Common.{◌≡◌, take}
 use Rattle.std.specs.Str.Parse.{digits_value, AllDigits}
 use Rattle.card.proofs.lines.number.Given as goal
 
-abbrev pub invariant-loop-b : goal.invariant-loop-b
-invariant-loop-b l = AllDigits 10 (take l.b-index l.digits) × (l.n ≡ digits_value 10 (take l.b-index l.digits))
+abbrev pub invariant-loop-digit : goal.invariant-loop-digit
+invariant-loop-digit l = AllDigits 10 (take l.digit-index l.digits) × (l.n ≡ digits_value 10 (take l.digit-index l.digits))

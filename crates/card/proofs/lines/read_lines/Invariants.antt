@@ -1,8 +1,7 @@
--- The values and the bytes so far.
-use Rattle.std.proofs.Common.{◌≡◌, length}
-use Rattle.card.specs.Text.{bytes_of}
-use Rattle.card.proofs.Steps.{Sofar}
+-- The lines of the keys so far were taken.
+use Rattle.std.proofs.Common.{◌≡◌, length, take}
+use Rattle.card.specs.Text.{bytes_of, Took}
 use Rattle.card.proofs.lines.read_lines.Given as goal
 
 abbrev pub invariant-loop-i : goal.invariant-loop-i
-invariant-loop-i l = Sofar (bytes_of l.keys) l.text l.values l.i l.at × (length l.values ≡ 32)
+invariant-loop-i g l = record { taken : Took (take l.i (bytes_of l.keys)) l.text (take l.i l.values) l.at; room : length l.values ≡ g.row.N }
