@@ -6,13 +6,13 @@ use Rattle.header.specs.HeaderKinds.{header_kind}
 use Rattle.card.specs.declared.card.Card.{Card}
 use Rattle.card.specs.declared.card.Card.TheVariants.{Header as HeaderCard, Fin as FinCard}
 use Rattle.fin.specs.FinKinds.{fin_kind}
-use Rattle.joint.specs.Sheets.{judged}
+use Rattle.joint.specs.Sheets.{judged, or_nobody}
 use Rattle.joint.specs.declared.fault.JointFault.{JointFault}
 use Rattle.joint.specs.declared.sheet.Sheet.{Sheet}
 use Rattle.account.specs.declared.entry.Entry.{Entry}
 use Rattle.account.specs.declared.entry.Entry.TheVariants.{Header, Fin, Refused}
 use Rattle.account.specs.declared.fault.Fault.TheVariants.{Joint}
-use Rattle.account.specs.Faults.{fault_code}
+use Rattle.account.specs.Faults.{fault_code, fault_text}
 
 -- a sheet of its kind, or the fault of the joint
 abbrev pub entry_from : (Sheet → Entry) → Result Sheet JointFault → Entry
@@ -24,15 +24,13 @@ abbrev pub entry_of : Card → Entry
 entry_of (HeaderCard j) = entry_from Header (judged header_kind j)
 entry_of (FinCard j) = entry_from Fin (judged fin_kind j)
 
--- the lines of an entry: eight for a sheet, three for a fault
+-- the lines of a sheet behind the first
 abbrev pub sheet_lines : Sheet → List ℕ
 sheet_lines s =
-    line_of (codes "shear") s.shear.figure ++ (line_of (codes "mode") s.shear.mode ++ (line_of (codes "tie") s.tying.figure
-    ++ (line_of (codes "tiemode") s.tying.mode ++ (line_of (codes "class") s.class ++ (line_of (codes "unmet") s.unmet ++ line_of (codes "count") s.count)))))
+    line_of (codes "shear") s.shear.figure ++ (line_of (codes "mode") s.shear.mode ++ (line_of (codes "tie") (or_nobody s.tying).figure
+    ++ (line_of (codes "tiemode") (or_nobody s.tying).mode ++ (line_of (codes "class") s.class ++ (line_of (codes "unmet") s.unmet ++ line_of (codes "count") s.count)))))
 
-abbrev pub fault_text : ℕ × ℕ × ℕ → List ℕ
-fault_text c = line_of (codes "layer") c.0 ++ (line_of (codes "fault") c.1 ++ line_of (codes "at") c.2)
-
+-- the lines of an entry: eight for a sheet, of which the first names its kind, three for a fault
 abbrev pub entry_text : Entry → List ℕ
 entry_text (Header s) = kind_line 72 ++ sheet_lines s
 entry_text (Fin s) = kind_line 70 ++ sheet_lines s

@@ -1,15 +1,14 @@
 // What the account says of one card.
-ghost use Rattle.std.specs.Prelude.{◌≡◌, ◌++◌, string_bytes, OnOk};
-ghost use Rattle.card.specs.Text.{line_of};
-ghost use Rattle.account.specs.Faults.{fault_code};
-ghost use Rattle.account.specs.Judged.{entry_of, entry_text, sheet_lines, fault_text};
+ghost use Rattle.std.specs.Prelude.{◌≡◌, Some};
+ghost use Rattle.account.specs.Judged.{entry_of, entry_text, sheet_lines};
 
 use crate::fault::Fault;
 use card::card::Card;
-use fin::sheet::fin_sheet;
-use header::sheet::header_sheet;
+use fin::fin::Fin;
+use header::header::Header;
 use joint::sheet::Sheet;
-use std::alloc::AllocError;
+use joint::work::judged_sheet;
+use std::fmt;
 
 #[derive(Clone, Copy, PartialEq, Eq, Debug)]
 pub enum Entry {
@@ -24,61 +23,46 @@ pub enum Entry {
 pub fn judge(card: Card) -> Entry
     ensures { result ≡ entry_of card }
 {
-    match card {
-        Card::Header(given) => match header_sheet(given) {
-            Ok(sheet) => Entry::Header(sheet),
-            Err(fault) => Entry::Refused(Fault::from(fault)),
-        },
-        Card::Fin(given) => match fin_sheet(given) {
-            Ok(sheet) => Entry::Fin(sheet),
-            Err(fault) => Entry::Refused(Fault::from(fault)),
-        },
+    let judged = match card {
+        Card::Header(given) => judged_sheet::<Header>(given).map(Entry::Header),
+        Card::Fin(given) => judged_sheet::<Fin>(given).map(Entry::Fin),
+    };
+    judged.unwrap_or_else(|fault| Entry::Refused(Fault::from(fault)))
+}
+
+// The lines of a sheet behind the one that names its kind.
+#[derive(Clone, Copy)]
+struct Lines<'a>(&'a Sheet);
+
+impl fmt::Display for Lines<'_> {
+    ghost output = { λ l. Some (sheet_lines l.0.now) };
+
+    fn fmt<W: fmt::Write>(&self, f: &mut fmt::Formatter<W>) -> fmt::Result {
+        let sheet = self.0;
+        let (tie, tiemode) = sheet.tying.map_or((0, 0), |t| (t.figure, t.mode));
+        write!(
+            f,
+            "shear={}\nmode={}\n",
+            sheet.shear.figure, sheet.shear.mode
+        )?;
+        write!(f, "tie={tie}\ntiemode={tiemode}\n")?;
+        write!(
+            f,
+            "class={}\nunmet={}\ncount={}\n",
+            sheet.class, sheet.unmet, sheet.count
+        )
     }
 }
 
-// Adds the line of a key and its value to the account.
-fn put_line(out: &mut String, key: &str, value: u64) -> Result<(), AllocError>
-    ensures { OnOk result (string_bytes out.new ≡ string_bytes out.old ++ line_of key.now value) }
-{
-    match write!(out, "{key}={value}\n") {
-        Ok(()) => Ok(()),
-        Err(_) => Err(AllocError),
-    }
-}
+// The eight lines of a sheet, or the three of a fault.
+impl fmt::Display for Entry {
+    ghost output = { λ e. Some (entry_text e) };
 
-// Adds the eight lines of a sheet, of which the first, that of its kind, is given.
-fn put_sheet(out: &mut String, first: &str, sheet: Sheet) -> Result<(), AllocError>
-    ensures { OnOk result (string_bytes out.new ≡ string_bytes out.old ++ (first.now ++ sheet_lines sheet)) }
-{
-    out.push_str(first)?;
-    put_line(out, "shear", sheet.shear.figure)?;
-    put_line(out, "mode", sheet.shear.mode as u64)?;
-    put_line(out, "tie", sheet.tying.figure)?;
-    put_line(out, "tiemode", sheet.tying.mode as u64)?;
-    put_line(out, "class", sheet.class as u64)?;
-    put_line(out, "unmet", sheet.unmet as u64)?;
-    put_line(out, "count", sheet.count as u64)
-}
-
-// Adds the three lines of a fault.
-fn put_fault(out: &mut String, fault: Fault) -> Result<(), AllocError>
-    ensures { OnOk result (string_bytes out.new ≡ string_bytes out.old ++ fault_text (fault_code fault)) }
-{
-    let (layer, number, at) = fault.code();
-    put_line(out, "layer", layer as u64)?;
-    put_line(out, "fault", number as u64)?;
-    put_line(out, "at", at as u64)
-}
-
-impl Entry {
-    // Adds the lines of the account for this card.
-    pub fn put(self, out: &mut String) -> Result<(), AllocError>
-        ensures { OnOk result (string_bytes out.new ≡ string_bytes out.old ++ entry_text self) }
-    {
+    fn fmt<W: fmt::Write>(&self, f: &mut fmt::Formatter<W>) -> fmt::Result {
         match self {
-            Entry::Header(sheet) => put_sheet(out, "joint=H\n", sheet),
-            Entry::Fin(sheet) => put_sheet(out, "joint=F\n", sheet),
-            Entry::Refused(fault) => put_fault(out, fault),
+            Entry::Header(sheet) => write!(f, "joint=H\n{}", Lines(sheet)),
+            Entry::Fin(sheet) => write!(f, "joint=F\n{}", Lines(sheet)),
+            Entry::Refused(fault) => write!(f, "{fault}"),
         }
     }
 }

@@ -1,10 +1,11 @@
 // The fault of any layer, as the program reports it.
-ghost use Rattle.std.specs.Prelude.{◌≡◌};
-ghost use Rattle.account.specs.Faults.{fault_code};
+ghost use Rattle.std.specs.Prelude.{◌≡◌, Some};
+ghost use Rattle.account.specs.Faults.{fault_code, fault_text};
 ghost use Rattle.account.specs.declared.fault.Fault.TheVariants.{Text, Joint};
 
 use card::fault::TextFault;
-use joint::fault::JointFault;
+use joint::fault::{FaultCode, JointFault};
+use std::fmt;
 
 #[derive(Clone, Copy, PartialEq, Eq, Debug)]
 pub enum Fault {
@@ -32,12 +33,22 @@ impl From<JointFault> for Fault {
 
 impl Fault {
     // The layer, the number and the place, as the layer itself gives them.
-    pub fn code(self) -> (u32, u32, usize)
+    pub fn code(self) -> FaultCode
         ensures { result ≡ fault_code self }
     {
         match self {
             Fault::Text(fault) => fault.code(),
             Fault::Joint(fault) => fault.code(),
         }
+    }
+}
+
+// The three lines of a fault.
+impl fmt::Display for Fault {
+    ghost output = { λ f. Some (fault_text (fault_code f)) };
+
+    fn fmt<W: fmt::Write>(&self, f: &mut fmt::Formatter<W>) -> fmt::Result {
+        let FaultCode { layer, number, at } = self.code();
+        write!(f, "layer={layer}\nfault={number}\nat={at}\n")
     }
 }

@@ -16,14 +16,10 @@ fn print_account(rt: &HostRuntime, text: &[u8]) -> anyhow::Result<()> {
 
 // The account of each text. There is one more text than separators; any of them may be empty.
 fn print_accounts(rt: &HostRuntime, texts: &[u8]) -> anyhow::Result<()> {
-    let mut start = 0;
-    for (i, b) in texts.iter().enumerate() {
-        if *b == SEPARATOR {
-            print_account(rt, &texts[start..i])?;
-            start = i + 1;
-        }
+    for text in texts.split(|b| *b == SEPARATOR) {
+        print_account(rt, text)?;
     }
-    print_account(rt, &texts[start..])
+    Ok(())
 }
 
 fn run(rt: &HostRuntime) -> anyhow::Result<()> {

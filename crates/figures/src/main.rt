@@ -1,7 +1,8 @@
 // Reads cards from standard input and prints a line for each: the letter of its kind and the figures of its modes, or `refused`.
 #![tactic(auto)]
 
-use card::card::{Card, read_card};
+use card::card::Card;
+use card::cards::Cards;
 use fin::fin::Fin;
 use header::header::Header;
 use joint::kind::Kind;
@@ -19,11 +20,11 @@ fn print_figure<K: Kind>(rt: &HostRuntime, joint: &K, mode: u32) -> io::Result<(
 
 // The shear modes, and then the tying modes.
 fn print_figures<K: Kind>(rt: &HostRuntime, joint: &K) -> io::Result<()> {
-    for i in 0..K::shear_count() {
-        print_figure(rt, joint, 1 + i)?;
+    for mode in 1..=K::SHEAR_MODES {
+        print_figure(rt, joint, mode)?;
     }
-    for i in 0..K::tying_count() {
-        print_figure(rt, joint, 21 + i)?;
+    for mode in 21..=20 + K::TYING_MODES {
+        print_figure(rt, joint, mode)?;
     }
     println!(rt)
 }
@@ -36,18 +37,14 @@ fn print_joint<K: Kind>(rt: &HostRuntime, letter: &str, given: K::Joint) -> io::
     print_figures(rt, &joint)
 }
 
-// A card that is not read is the last, since nobody knows where the next one starts.
+// A text that is not a card ends the cards.
 fn print_cards(rt: &HostRuntime, text: &[u8]) -> io::Result<()> {
-    let mut rest = text;
-    while !rest.is_empty() {
-        let Ok((card, taken)) = read_card(rest) else {
-            return println!(rt; "refused");
-        };
+    for card in Cards::of(text) {
         match card {
-            Card::Header(given) => print_joint::<Header>(rt, "H", given)?,
-            Card::Fin(given) => print_joint::<Fin>(rt, "F", given)?,
+            Ok(Card::Header(given)) => print_joint::<Header>(rt, "H", given)?,
+            Ok(Card::Fin(given)) => print_joint::<Fin>(rt, "F", given)?,
+            Err(_) => println!(rt; "refused")?,
         }
-        rest = &rest[taken..];
     }
     Ok(())
 }

@@ -1,14 +1,13 @@
 use crate::cards::{fin_card, reference_card, reference_text, trade_card};
 use account::account::account;
 use card::card::{Card, read_card};
+use card::fault::TextFault;
 use fin::fin::Fin;
-use fin::fin_joint::FinJoint;
-use fin::sheet::fin_sheet;
 use header::header::Header;
-use header::sheet::header_sheet;
-use joint::fault::JointFault;
+use joint::fault::{FaultCode, JointFault};
 use joint::kind::Kind;
 use joint::sheet::{Governing, Sheet};
+use joint::work::judged_sheet;
 use std::test::Fail;
 
 // What the account says of the reference card, and of the same card with end distance 26.
@@ -16,11 +15,16 @@ const WORKED: &str = "joint=H\nshear=248000\nmode=8\ntie=0\ntiemode=0\nclass=4\n
 
 const TOO_CLOSE: &str = "layer=2\nfault=22\nat=8\n";
 
+// The numbers that a fault is reported with.
+fn code(layer: u32, number: u32, at: usize) -> FaultCode {
+    FaultCode { layer, number, at }
+}
+
 // A sheet of class 4, governed by the beam web.
 fn web_sheet(figure: u64, unmet: u32, count: u32) -> Sheet {
     Sheet {
         shear: Governing { mode: 8, figure },
-        tying: Governing { mode: 0, figure: 0 },
+        tying: None,
         class: 4,
         unmet,
         count,
@@ -53,7 +57,10 @@ fn no_such_modes(rt: HostRuntime) -> Result<(), Fail> {
 
 #[test]
 fn trade_sheet(rt: HostRuntime) -> Result<(), Fail> {
-    assert_eq!(rt; header_sheet(trade_card())?, web_sheet(221561, 0, 0));
+    assert_eq!(rt;
+        judged_sheet::<Header>(trade_card())?,
+        web_sheet(221561, 0, 0)
+    );
     Ok(())
 }
 
@@ -73,25 +80,28 @@ fn reference_figures(rt: HostRuntime) -> Result<(), Fail> {
 #[test]
 fn rotation_edge(rt: HostRuntime) -> Result<(), Fail> {
     assert_eq!(rt;
-        header_sheet(reference_card(40, 399))?,
+        judged_sheet::<Header>(reference_card(40, 399))?,
         web_sheet(248000, 0, 0)
     );
     assert_eq!(rt;
-        header_sheet(reference_card(40, 400))?,
+        judged_sheet::<Header>(reference_card(40, 400))?,
         web_sheet(248000, 2, 1)
     );
     Ok(())
 }
 
+// Why a joint of this kind is not admitted.
+fn refusal<K: Kind>(given: K::Joint) -> Option<JointFault> {
+    K::admit(given).err()
+}
+
 // The least end distance of an M20 is 27 mm.
 #[test]
 fn end_distance_edge(rt: HostRuntime) -> Result<(), Fail> {
-    assert!(rt; Header::admit(reference_card(27, 0)).is_ok());
-    let fault = Header::admit(reference_card(26, 0))
-        .err()
-        .ok_or("admitted")?;
+    assert_eq!(rt; refusal::<Header>(reference_card(27, 0)), None);
+    let fault = refusal::<Header>(reference_card(26, 0)).ok_or("admitted")?;
     assert_eq!(rt; fault, JointFault::TooClose(8));
-    assert_eq!(rt; fault.code(), (2, 22, 8));
+    assert_eq!(rt; fault.code(), code(2, 22, 8));
     Ok(())
 }
 
@@ -102,10 +112,10 @@ fn known_fin_sheet(unmet: u32, count: u32) -> Sheet {
             mode: 8,
             figure: 147559,
         },
-        tying: Governing {
+        tying: Some(Governing {
             mode: 25,
             figure: 293181,
-        },
+        }),
         class: 2,
         unmet,
         count,
@@ -116,9 +126,9 @@ fn known_fin_sheet(unmet: u32, count: u32) -> Sheet {
 #[test]
 fn fin_sheets(rt: HostRuntime) -> Result<(), Fail> {
     let mut card = fin_card();
-    assert_eq!(rt; fin_sheet(card)?, known_fin_sheet(0, 0));
+    assert_eq!(rt; judged_sheet::<Fin>(card)?, known_fin_sheet(0, 0));
     card.parts.a = 47;
-    assert_eq!(rt; fin_sheet(card)?, known_fin_sheet(8, 1));
+    assert_eq!(rt; judged_sheet::<Fin>(card)?, known_fin_sheet(8, 1));
     Ok(())
 }
 
@@ -138,17 +148,13 @@ fn fin_modes(rt: HostRuntime) -> Result<(), Fail> {
     Ok(())
 }
 
-fn fin_fault(card: FinJoint) -> Option<JointFault> {
-    Fin::admit(card).err()
-}
-
 #[test]
 fn fin_end_distance_edge(rt: HostRuntime) {
     let mut card = fin_card();
     card.layout.e1 = 27;
-    assert_eq!(rt; fin_fault(card), None);
+    assert_eq!(rt; refusal::<Fin>(card), None);
     card.layout.e1 = 26;
-    assert_eq!(rt; fin_fault(card), Some(JointFault::TooClose(7)));
+    assert_eq!(rt; refusal::<Fin>(card), Some(JointFault::TooClose(7)));
 }
 
 // The plate is at least 0.15 times as thick as the lever arm is long.
@@ -156,11 +162,11 @@ fn fin_end_distance_edge(rt: HostRuntime) {
 fn fin_thickness_edge(rt: HostRuntime) -> Result<(), Fail> {
     let mut card = fin_card();
     card.parts.tp = 90;
-    assert_eq!(rt; fin_fault(card), None);
+    assert_eq!(rt; refusal::<Fin>(card), None);
     card.parts.tp = 89;
-    let fault = fin_fault(card).ok_or("admitted")?;
+    let fault = refusal::<Fin>(card).ok_or("admitted")?;
     assert_eq!(rt; fault, JointFault::PlateTooThin(11));
-    assert_eq!(rt; fault.code(), (2, 23, 11));
+    assert_eq!(rt; fault.code(), code(2, 23, 11));
     Ok(())
 }
 
@@ -168,7 +174,7 @@ fn fin_thickness_edge(rt: HostRuntime) -> Result<(), Fail> {
 fn fin_no_gap(rt: HostRuntime) {
     let mut card = fin_card();
     card.parts.e2b = 60;
-    assert_eq!(rt; fin_fault(card), Some(JointFault::NoGap(14)));
+    assert_eq!(rt; refusal::<Fin>(card), Some(JointFault::NoGap(14)));
 }
 
 // The holes take the whole shear area.
@@ -176,28 +182,25 @@ fn fin_no_gap(rt: HostRuntime) {
 fn fin_used_up(rt: HostRuntime) {
     let mut card = fin_card();
     card.parts.av = 300;
-    assert_eq!(rt; fin_fault(card), Some(JointFault::UsedUp(15)));
+    assert_eq!(rt; refusal::<Fin>(card), Some(JointFault::UsedUp(15)));
 }
 
-// The fault of a text that is no card.
-fn text_fault(text: &[u8]) -> Option<(u32, u32, usize)> {
-    match read_card(text) {
-        Ok(_) => None,
-        Err(fault) => Some(fault.code()),
-    }
+// The numbers of the fault of a text that is no card.
+fn text_fault(text: &[u8]) -> Option<FaultCode> {
+    read_card(text).err().map(TextFault::code)
 }
 
 #[test]
 fn text_faults(rt: HostRuntime) {
-    assert_eq!(rt; text_fault(b""), Some((1, 12, 1)));
-    assert_eq!(rt; text_fault(b"joint=G\nplate=275\n"), Some((1, 11, 1)));
+    assert_eq!(rt; text_fault(b""), Some(code(1, 12, 1)));
+    assert_eq!(rt; text_fault(b"joint=G\nplate=275\n"), Some(code(1, 11, 1)));
     assert_eq!(rt;
         text_fault(b"joint=H\nplate=275\nsupp=275\n"),
-        Some((1, 13, 3))
+        Some(code(1, 13, 3))
     );
     assert_eq!(rt;
         text_fault(b"joint=H\nplate=0275\nweb=275\n"),
-        Some((1, 14, 2))
+        Some(code(1, 14, 2))
     );
 }
 

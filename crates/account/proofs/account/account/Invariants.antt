@@ -1,10 +1,8 @@
--- `account`: what is written so far is the lines of the cards that were passed.
-use Rattle.std.proofs.Common.{length, string_bytes}
-use Rattle.account.proofs.Passed.{Sofar}
+-- `account`: what is written so far is the lines of the cards that were given.
+use Rattle.std.proofs.Common.{◌≡◌, string_bytes}
+use Rattle.std.specs.List.{flat_map}
+use Rattle.account.proofs.Told.{told}
 use Rattle.account.proofs.account.account.Given as goal
 
-abbrev pub invariant-loop-rest : goal.invariant-loop-rest
-invariant-loop-rest l = Sofar l.text l.rest (string_bytes l.out)
-
-abbrev pub decreases-loop-rest : goal.decreases-loop-rest
-decreases-loop-rest l = length l.rest
+abbrev pub invariant-loop-card : goal.invariant-loop-card
+invariant-loop-card l = string_bytes l.out ≡ flat_map told l.yielded
