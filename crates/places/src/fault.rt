@@ -3,7 +3,7 @@ ghost use Rattle.std.specs.Prelude.{◌≡◌};
 ghost use Rattle.places.specs.Codes.{rail_code};
 ghost use Rattle.places.specs.declared.fault.RailFault.TheVariants.{Joint};
 
-use joint::fault::JointFault;
+use joint::fault::{FaultCode, JointFault};
 
 #[derive(Clone, Copy, PartialEq, Eq, Debug)]
 pub enum RailFault {
@@ -22,17 +22,22 @@ pub enum RailFault {
 }
 
 impl RailFault {
-    // The layer, the number and the place; of a joint's fault its own.
-    pub fn code(self) -> (u32, u32, usize)
+    // By its numbers; of a joint's fault its own.
+    pub fn code(self) -> FaultCode
         ensures { result ≡ rail_code self }
     {
-        match self {
-            RailFault::Joint(fault) => fault.code(),
-            RailFault::Length(size) => (3, 31, size),
-            RailFault::NoPlace(place) => (3, 32, place),
-            RailFault::WrongState(place) => (3, 33, place),
-            RailFault::BadSlip(place) => (3, 34, place),
-            RailFault::NoMode(mode) => (3, 35, mode as usize),
+        let (number, at) = match self {
+            RailFault::Joint(fault) => return fault.code(),
+            RailFault::Length(size) => (31, size),
+            RailFault::NoPlace(place) => (32, place),
+            RailFault::WrongState(place) => (33, place),
+            RailFault::BadSlip(place) => (34, place),
+            RailFault::NoMode(mode) => (35, mode as usize),
+        };
+        FaultCode {
+            layer: 3,
+            number,
+            at,
         }
     }
 }

@@ -1,30 +1,29 @@
 // The questions. They change nothing.
 ghost use Rattle.std.specs.Prelude.{◌≡◌};
-ghost use Rattle.places.specs.Places.{state_at, card_at, joint_at, sheet_at, known, figure_at, of_class, in_state, class_count, state_count};
+ghost use Rattle.places.specs.Places.{state_at, card_at, joint_at, sheet_at, known, figure_at, class_count, state_count};
 
 use crate::fault::RailFault;
-use crate::place::{Event, Place, State};
-use crate::work::due_at;
+use crate::place::{Place, State};
 use joint::kind::Kind;
 use joint::sheet::Sheet;
 
 pub fn state_in<K: Kind>(places: &[Place<K>], place: usize) -> Result<State, RailFault>
     ensures { result ≡ state_at places.now place }
 {
-    if place >= places.len() {
-        return Err(RailFault::NoPlace(place));
-    }
-    Ok(places[place].state())
+    places
+        .get(place)
+        .map(Place::state)
+        .ok_or(RailFault::NoPlace(place))
 }
 
 // The admitted joint that hangs there, with its sheet.
 fn card_in<K: Kind>(places: &[Place<K>], place: usize) -> Result<(K, Sheet), RailFault>
     ensures { result ≡ card_at places.now place }
 {
-    due_at(places, place, Event::Ask)?;
-    match &places[place] {
-        Place::Hanging(joint, sheet) => Ok((*joint, *sheet)),
-        _ => unreachable(),
+    match places.get(place) {
+        Some(Place::Hanging(joint, sheet)) => Ok((*joint, *sheet)),
+        Some(Place::Empty | Place::Lifted) => Err(RailFault::WrongState(place)),
+        None => Err(RailFault::NoPlace(place)),
     }
 }
 
@@ -45,9 +44,9 @@ pub fn sheet_in<K: Kind>(places: &[Place<K>], place: usize) -> Result<Sheet, Rai
 
 // Shear modes count from 1, tying modes from 21.
 fn known_mode<K: Kind>(mode: u32) -> Result<(), RailFault>
-    ensures { result ≡ known K.Kind.shear K.Kind.tying mode }
+    ensures { result ≡ known K.SHEAR_MODES K.TYING_MODES mode }
 {
-    if (mode >= 1 && mode <= K::shear_count()) || (mode >= 21 && mode - 21 < K::tying_count()) {
+    if (1..=K::SHEAR_MODES).contains(&mode) || (mode >= 21 && mode - 21 < K::TYING_MODES) {
         Ok(())
     } else {
         Err(RailFault::NoMode(mode))
@@ -67,44 +66,19 @@ pub fn figure_in<K: Kind>(
     Ok(joint.figure(mode))
 }
 
-fn class_one<K: Kind>(place: &Place<K>, class: u8) -> usize
-    ensures { result ≡ of_class class place.now }
-{
-    match place {
-        Place::Hanging(_, sheet) => { if sheet.class == class { 1 } else { 0 } }
-        _ => 0,
-    }
-}
-
 // How many cards of the class hang.
 pub fn class_in<K: Kind>(places: &[Place<K>], class: u8) -> usize
     ensures { result ≡ class_count class places.now }
 {
-    let mut n: usize = 0;
-    for place in places {
-        n += class_one(place, class);
-    }
-    n
-}
-
-fn state_one<K: Kind>(place: &Place<K>, state: State) -> usize
-    ensures { result ≡ in_state state place.now }
-{
-    match (place.state(), state) {
-        (State::Empty, State::Empty)
-        | (State::Hanging, State::Hanging)
-        | (State::Lifted, State::Lifted) => 1,
-        _ => 0,
-    }
+    places
+        .iter()
+        .filter(|place| matches!(place, Place::Hanging(_, sheet) if sheet.class == class))
+        .count()
 }
 
 // How many places are in the state.
 pub fn count_in<K: Kind>(places: &[Place<K>], state: State) -> usize
     ensures { result ≡ state_count state places.now }
 {
-    let mut n: usize = 0;
-    for place in places {
-        n += state_one(place, state);
-    }
-    n
+    places.iter().filter(|place| place.state() == state).count()
 }

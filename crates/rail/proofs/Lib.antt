@@ -1,4 +1,3 @@
-pub mod Fills
 pub mod Hangs
 pub mod InWords
 pub mod Pushes

@@ -1,5 +1,5 @@
 -- The table of places in words: every case of a call, with what it answers and the places that it leaves.
-use Rattle.std.specs.Prelude.{◌≡◌, ℕ, ◌+◌, ◌<◌, ◌≤◌, ◌⊎◌, List, [], ◌∷◌, length, Ok, Err, ◌≢◌, slice_index_or}
+use Rattle.std.specs.Prelude.{◌≡◌, ℕ, ◌+◌, ◌<◌, ◌≤◌, ◌⊎◌, List, [], ◌∷◌, length, Some, Ok, Err, ◌≢◌, slice_get}
 use Rattle.joint.specs.Sheets.{sheet_of}
 use Rattle.joint.specs.declared.fault.JointFault.{JointFault}
 use Rattle.joint.specs.declared.kind.Kind.{Ghosts}
@@ -17,16 +17,16 @@ use Rattle.rail.specs.declared.call.Call.TheVariants.{Hang, Lift, HangBack, Scra
 
 -- a shear mode, from 1, or a tying mode, from 21
 abbrev pub Mode : {J R : Type 0} → Ghosts J R → ℕ → Type 0
-Mode k i = ((1 ≤ i) × (i ≤ k.shear)) ⊎ ((21 ≤ i) × (i < 21 + k.tying))
+Mode k i = ((1 ≤ i) × (i ≤ k.SHEAR_MODES)) ⊎ ((21 ≤ i) × (i < 21 + k.TYING_MODES))
 
 module _ {J : Type 0} where
   -- there is a place p, and x stands in it
   abbrev pub At : List (Place J) → ℕ → Place J → Type 0
-  At ps p x = (p < length ps) × (slice_index_or ps p place.Empty ≡ x)
+  At ps p x = slice_get ps p ≡ Some x
 
   -- there is a place p, and it is in another state
   abbrev pub NotIn : List (Place J) → ℕ → State → Type 0
-  NotIn ps p s = (p < length ps) × (state_of (slice_index_or ps p place.Empty) ≢ s)
+  NotIn ps p s = (x : Place J) × At ps p x × (state_of x ≢ s)
 
   -- a slip of the number m and the place p is good on the rail of the number n: the number is the rail's and the place is lifted
   abbrev pub Good : ℕ → List (Place J) → ℕ → ℕ → Type 0
@@ -36,7 +36,7 @@ module _ {J : Type 0} where
   pub record Changed (ps : List (Place J)) (p : ℕ) (x : Place J) (qs : List (Place J)) : Type 0 where
     pub here : At qs p x
     pub as_many : length qs ≡ length ps
-    pub elsewhere : (i : ℕ) → (i ≢ p) → slice_index_or qs i place.Empty ≡ slice_index_or ps i place.Empty
+    pub elsewhere : (i : ℕ) → (i ≢ p) → slice_get qs i ≡ slice_get ps i
 
 -- a question for the joint, the sheet or a figure of place p
 pub data Asks {R : Type 0} (p : ℕ) : Call R → Type 0 where
@@ -68,7 +68,7 @@ pub data Step {J R : Type 0} (k : Ghosts J R) (n : ℕ) (ps : List (Place J)) : 
   scrap : {m p : ℕ} {qs : List (Place J)} → Good n ps m p → Changed ps p place.Empty qs → Step k n ps (Scrap m p) Done qs
   scrap_bad_slip : {m p : ℕ} → (Good n ps m p → ⊥) → Step k n ps (Scrap m p) (Refused (BadSlip p)) ps
   -- the questions
-  ask_state : {p : ℕ} → p < length ps → Step k n ps (AskState p) (Stands (state_of (slice_index_or ps p place.Empty))) ps
+  ask_state : {p : ℕ} {x : Place J} → At ps p x → Step k n ps (AskState p) (Stands (state_of x)) ps
   ask_state_nowhere : {p : ℕ} → length ps ≤ p → Step k n ps (AskState p) (Refused (NoPlace p)) ps
   ask_joint : {p : ℕ} {j : J} {s : Sheet} → At ps p (place.Hanging j s) → Step k n ps (AskJoint p) (Holds (k.joint j)) ps
   ask_sheet : {p : ℕ} {j : J} {s : Sheet} → At ps p (place.Hanging j s) → Step k n ps (AskSheet p) (Shows s) ps

@@ -1,5 +1,5 @@
 -- The table of places: what each call answers and leaves, by its arguments alone. A slip is its rail number and its place, whichever rail gave it.
-use Rattle.std.specs.Prelude.{ℕ, cond, ◌||◌, List, replicate, Ok, Err, Option, Result, ◌==◌, nat_lt}
+use Rattle.std.specs.Prelude.{ℕ, cond, ◌||◌, List, replicate, Ok, Err, Result, ◌==◌, nat_lt}
 use Rattle.joint.specs.declared.kind.Kind.{Ghosts}
 use Rattle.joint.specs.declared.sheet.Sheet.{Sheet}
 use Rattle.places.specs.Places.{hang_to, lift_to, back_to, scrap_to, hung, put, done, sheet_told, state_at, joint_at, sheet_at, figure_at, class_count}
@@ -7,7 +7,6 @@ use Rattle.places.specs.declared.fault.RailFault.{RailFault}
 use Rattle.places.specs.declared.fault.RailFault.TheVariants.{Length}
 use Rattle.places.specs.declared.place.Place.{Place}
 use Rattle.places.specs.declared.place.Place.TheVariants as place
-use Rattle.places.specs.declared.place.State.{State}
 use Rattle.rail.specs.declared.call.Answer.{Answer}
 use Rattle.rail.specs.declared.call.Answer.TheVariants.{Done, Handed, Stands, Holds, Shows, Prints, Counts, Refused}
 use Rattle.rail.specs.declared.call.Call.{Call}
@@ -32,49 +31,27 @@ module _ {J : Type 0} where
 
 -- what a program is given, as an answer of the table
 module _ {R : Type 0} where
-  abbrev pub done_answer : Result (Unit {0}) RailFault → Answer R
-  done_answer (Ok u) = Done
-  done_answer (Err f) = Refused f
+  -- what a call gives, put as that sort of answer, or its refusal
+  abbrev pub as_answer : {A : Type 0} → (A → Answer R) → Result A RailFault → Answer R
+  as_answer sort (Ok x) = sort x
+  as_answer sort (Err f) = Refused f
 
-  abbrev pub handed_answer : ℕ → ℕ → Result (Unit {0}) RailFault → Answer R
-  handed_answer n p (Ok u) = Handed n p
-  handed_answer n p (Err f) = Refused f
-
-  abbrev pub slip_answer : Result Slip RailFault → Answer R
-  slip_answer (Ok s) = Handed s.number s.place
-  slip_answer (Err f) = Refused f
-
-  abbrev pub sheet_answer : Result Sheet RailFault → Answer R
-  sheet_answer (Ok s) = Shows s
-  sheet_answer (Err f) = Refused f
-
+  -- a refused hang back gives the slip back beside the fault
   abbrev pub back_answer : Result Sheet (Slip × RailFault) → Answer R
   back_answer (Ok s) = Shows s
   back_answer (Err e) = Refused e.1
 
-  abbrev pub state_answer : Result State RailFault → Answer R
-  state_answer (Ok s) = Stands s
-  state_answer (Err f) = Refused f
-
-  abbrev pub joint_answer : Result R RailFault → Answer R
-  joint_answer (Ok r) = Holds r
-  joint_answer (Err f) = Refused f
-
-  abbrev pub figure_answer : Result (Option ℕ) RailFault → Answer R
-  figure_answer (Ok s) = Prints s
-  figure_answer (Err f) = Refused f
-
 module _ {J R : Type 0} where
   -- what the call answers on the rail of the number n with the places ps
   abbrev pub answer_at : Ghosts J R → ℕ → List (Place J) → Call R → Answer R
-  answer_at k n ps (Hang p r) = sheet_answer (sheet_told k (hang_to k ps p r))
-  answer_at k n ps (Lift p) = handed_answer n p (done (lift_to ps p))
-  answer_at k n ps (HangBack m p r) = sheet_answer (sheet_told k (back_to k n ps m p r))
-  answer_at k n ps (Scrap m p) = done_answer (done (scrap_to n ps m p))
-  answer_at k n ps (AskState p) = state_answer (state_at ps p)
-  answer_at k n ps (AskJoint p) = joint_answer (joint_at k ps p)
-  answer_at k n ps (AskSheet p) = sheet_answer (sheet_at ps p)
-  answer_at k n ps (AskFigure p i) = figure_answer (figure_at k ps p i)
+  answer_at k n ps (Hang p r) = as_answer Shows (sheet_told k (hang_to k ps p r))
+  answer_at k n ps (Lift p) = as_answer (λ u. Handed n p) (done (lift_to ps p))
+  answer_at k n ps (HangBack m p r) = as_answer Shows (sheet_told k (back_to k n ps m p r))
+  answer_at k n ps (Scrap m p) = as_answer (λ u. Done) (done (scrap_to n ps m p))
+  answer_at k n ps (AskState p) = as_answer Stands (state_at ps p)
+  answer_at k n ps (AskJoint p) = as_answer Holds (joint_at k ps p)
+  answer_at k n ps (AskSheet p) = as_answer Shows (sheet_at ps p)
+  answer_at k n ps (AskFigure p i) = as_answer Prints (figure_at k ps p i)
   answer_at k n ps (AskClass c) = Counts (class_count c ps)
 
   -- and the places that it leaves

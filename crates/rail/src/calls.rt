@@ -1,8 +1,8 @@
 // The calls of a rail. Each answers, and leaves every place, as the table of places does.
 ghost use Rattle.std.specs.Prelude.{◌≡◌, false, length, IfOk, IfErr};
 ghost use Rattle.rail.specs.Model.{table_of};
-ghost use Rattle.rail.specs.Table.{after, answer, done_answer, slip_answer, back_answer, state_answer, joint_answer, sheet_answer, figure_answer};
-ghost use Rattle.rail.specs.declared.call.Answer.TheVariants.{Counts};
+ghost use Rattle.rail.specs.Table.{after, answer, as_answer, back_answer};
+ghost use Rattle.rail.specs.declared.call.Answer.TheVariants.{Done, Handed, Stands, Holds, Shows, Prints, Counts};
 ghost use Rattle.rail.specs.declared.call.Call.TheVariants.{Hang, Lift, HangBack, Scrap, AskState, AskJoint, AskSheet, AskFigure, AskClass};
 
 use crate::rail::Rail;
@@ -18,7 +18,7 @@ impl<'a, K: Kind> Rail<'a, K> {
     // Hangs a card on an empty place, and answers its sheet.
     pub fn hang(&mut self, place: usize, given: K::Joint) -> Result<Sheet, RailFault>
         ensures table { table_of self.new ≡ after K.Kind (table_of self.old) (Hang place given) }
-        ensures answer { sheet_answer result ≡ answer K.Kind (table_of self.old) (Hang place given) }
+        ensures answer { as_answer Shows result ≡ answer K.Kind (table_of self.old) (Hang place given) }
         ensures same { self.new.places.ghost_name ≡ self.old.places.ghost_name }
     {
         hang_in(self.places, place, given)
@@ -27,7 +27,7 @@ impl<'a, K: Kind> Rail<'a, K> {
     // Lifts the card of a hanging place, against a slip.
     pub fn lift(&mut self, place: usize) -> Result<Slip, RailFault>
         ensures table { table_of self.new ≡ after K.Kind (table_of self.old) (Lift place) }
-        ensures answer { slip_answer result ≡ answer K.Kind (table_of self.old) (Lift place) }
+        ensures answer { as_answer (λ s. Handed s.number s.place) result ≡ answer K.Kind (table_of self.old) (Lift place) }
         ensures unspent { IfOk result (λ s. s.spent ≡ false) }
         ensures same { self.new.places.ghost_name ≡ self.old.places.ghost_name }
     {
@@ -58,7 +58,7 @@ impl<'a, K: Kind> Rail<'a, K> {
     // Empties the lifted place of the slip. The slip is used up even where it is refused.
     pub fn scrap(&mut self, mut slip: Slip) -> Result<(), RailFault>
         ensures table { table_of self.new ≡ after K.Kind (table_of self.old) (Scrap slip.number slip.place) }
-        ensures answer { done_answer result ≡ answer K.Kind (table_of self.old) (Scrap slip.number slip.place) }
+        ensures answer { as_answer (λ _. Done) result ≡ answer K.Kind (table_of self.old) (Scrap slip.number slip.place) }
         ensures same { self.new.places.ghost_name ≡ self.old.places.ghost_name }
     {
         slip.spent = true;
@@ -66,27 +66,27 @@ impl<'a, K: Kind> Rail<'a, K> {
     }
 
     pub fn state(&self, place: usize) -> Result<State, RailFault>
-        ensures { state_answer result ≡ answer K.Kind (table_of self.now) (AskState place) }
+        ensures { as_answer Stands result ≡ answer K.Kind (table_of self.now) (AskState place) }
     {
         state_in(self.places, place)
     }
 
     // What the card of a hanging place says.
     pub fn joint(&self, place: usize) -> Result<K::Joint, RailFault>
-        ensures { joint_answer result ≡ answer K.Kind (table_of self.now) (AskJoint place) }
+        ensures { as_answer Holds result ≡ answer K.Kind (table_of self.now) (AskJoint place) }
     {
         joint_in(self.places, place)
     }
 
     pub fn sheet(&self, place: usize) -> Result<Sheet, RailFault>
-        ensures { sheet_answer result ≡ answer K.Kind (table_of self.now) (AskSheet place) }
+        ensures { as_answer Shows result ≡ answer K.Kind (table_of self.now) (AskSheet place) }
     {
         sheet_in(self.places, place)
     }
 
     // The figure of a mode of a hanging card, and nothing where the mode does not bind.
     pub fn figure(&self, place: usize, mode: u32) -> Result<Option<u64>, RailFault>
-        ensures { figure_answer result ≡ answer K.Kind (table_of self.now) (AskFigure place mode) }
+        ensures { as_answer Prints result ≡ answer K.Kind (table_of self.now) (AskFigure place mode) }
     {
         figure_in(self.places, place, mode)
     }

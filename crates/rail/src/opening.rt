@@ -15,19 +15,18 @@ const MOST: usize = 4096;
 pub(crate) fn length_allowed(size: usize) -> Result<(), RailFault>
     ensures { result ≡ open_answer size }
 {
-    if size == 0 || size > MOST {
-        Err(RailFault::Length(size))
-    } else {
+    if (1..=MOST).contains(&size) {
         Ok(())
+    } else {
+        Err(RailFault::Length(size))
     }
 }
 
+// Empties every place.
 pub(crate) fn clear<K: Kind>(places: &mut [Place<K>])
     ensures { places.new ≡ empties (length places.old) }
 {
-    for i in 0..places.len() {
-        places[i] = Place::Empty;
-    }
+    places.fill(Place::Empty);
 }
 
 impl<'a, K: Kind> Rail<'a, K> {

@@ -1,13 +1,32 @@
-use Rattle.std.proofs.Common.{arith, rules}
+use Rattle.std.proofs.Common.{rules}
+use Rattle.rail.specs.Model.{table_of}
+use Rattle.rail.proofs.Pushes.{run_more, answers_more}
 use Rattle.rail.proofs.Whole.{replayed}
 use Rattle.rail.proofs.replay.replay.Goals as goal
 
+pub loop-call-preserved : goal.loop-call-preserved
+loop-call-preserved g c =
+    let k = g.K.Kind in
+    let cs = c.args.calls.now in
+    let i = c.loop-call.call-index in
+    let kept = c.loop-call.invariant in
+    let made = c.perform.ensures in
+    record {
+      table = run_more k _ cs i c.call-item.result c.loop-call-test.true c.call-item.is kept.table made.table;
+      answers = answers_more k _ cs i c.call-item.result c.loop-call-test.true c.call-item.is c.push_reserved.new.self.items kept.table kept.answers made.answer
+          c.push_reserved.ensures.items;
+      answered = search rules;
+      room = search rules;
+      same = search rules;
+    }
+
 pub returns : goal.returns
 returns g c =
-    replayed g.K.Kind g.met.K.Kind.meaning c.args.number _ c.args.places.now c.clear.new.places c.play.new.places c.args.calls.now c.play.new.out
-    _
+    replayed g.K.Kind g.met.K.Kind.meaning c.args.number c.args.places.now _ c.args.calls.now c.loop-call.call-index c.loop-call.answers.items _
+    (table_of c.loop-call.rail)
     (search rules)
-    c.clear.ensures
-    c.play.ensures.places
-    c.play.ensures.answers
-    (let made = c.in_ok-answers.ensures in omega (arith, c.play.auto.out, c.as_mut_slice.ensures.len))
+    (cc)
+    c.loop-call-test.false
+    c.loop-call.invariant.table
+    c.loop-call.invariant.answers
+    (search rules)

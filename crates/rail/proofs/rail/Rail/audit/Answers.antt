@@ -1,9 +1,5 @@
 use Rattle.rail.proofs.Hangs.{law_at}
 use Rattle.rail.proofs.rail.Rail.audit.Goals as goal
 
-pub returns : goal.returns
-returns g c = record {
-  hanging = c.count_in.ensures;
-  lifted = c.count_in-2.ensures;
-  law = λ number size cs e. law_at g.K.Kind g.met.K.Kind.meaning number size cs _ e;
-}
+pub returns-clause-law : goal.returns-clause-law
+returns-clause-law g c = λ number size cs e. law_at g.K.Kind g.met.K.Kind.meaning number size cs _ e
