@@ -1,11 +1,12 @@
 -- A day at the desk: what becomes of an order, and the day's log.
-use Rattle.std.specs.Prelude.{◌≡◌, ℕ, ◌<◌, ◌≤◌, List, ◌++◌, length, ◌≢◌, slice_index_or}
+use Rattle.std.specs.Prelude.{◌≡◌, ℕ, ◌<◌, ◌≤◌, List, ◌++◌, length, map, ◌≢◌, slice_index_or}
 use Rattle.joint.specs.declared.kind.Kind.{Ghosts}
 use Rattle.rail.specs.Runs.{run, answers}
 use Rattle.rail.specs.Table.{Table, answer, after}
 use Rattle.rail.specs.declared.call.Answer.{Answer}
 use Rattle.rail.specs.declared.call.Call.{Call}
 use Rattle.rail.specs.declared.call.Call.TheVariants as call
+use Rattle.day.specs.declared.desk.Entry.{Entry}
 use Rattle.day.specs.declared.desk.Kept.{Kept}
 use Rattle.day.specs.declared.desk.Outcome.{Outcome}
 use Rattle.day.specs.declared.desk.Outcome.TheVariants.{Made, NoSlip, NoClass}
@@ -39,16 +40,24 @@ module _ {R : Type 0} where
   BySlip (Figure p i) q = ⊥
   BySlip (Class n) q = ⊥
 
+-- the calls of a log, and what was answered to them
+module _ {R : Type 0} where
+  abbrev pub calls_of : List (Entry R) → List (Call R)
+  calls_of = map (λ e. e.call)
+
+  abbrev pub answers_of : List (Entry R) → List (Answer R)
+  answers_of = map (λ e. e.answer)
+
 module _ {J R : Type 0} where
   -- at a desk that keeps the slips ks, the order leads the table t to u: a call is the order's, and is answered and leaves the rail as the table says; where none is made the rail is as it was
   abbrev pub Carried : Ghosts J R → Table J → List (Kept R) → Order R → Outcome R → Table J → Type 0
-  Carried k t ks o (Made c a) u = CallOf o c × (a ≡ answer k t c) × (u ≡ after k t c)
+  Carried k t ks o (Made e) u = CallOf o e.call × (e.answer ≡ answer k t e.call) × (u ≡ after k t e.call)
   Carried k t ks o (NoSlip p) u = BySlip o p × NoneFor ks p × (u ≡ t)
   Carried k t ks o (NoClass n) u = (o ≡ Class n) × (256 ≤ n) × (u ≡ t)
 
-  -- a stretch of a day: calls that lead the table t to u and are noted in the log with the table's answers, behind what it had
-  pub record Stretch (k : Ghosts J R) (t : Table J) (noted : List (Call R)) (given : List (Answer R)) (u : Table J) (all_noted : List (Call R)) (all_given : List (Answer R)) : Type 0 where
-    pub calls : List (Call R)
-    pub logged : all_noted ≡ noted ++ calls
-    pub answered : all_given ≡ given ++ answers k t calls
-    pub stands : u ≡ run k t calls
+  -- a stretch of a day: calls that lead the table t to u and are noted with the table's answers, behind what the log had
+  pub record Stretch (k : Ghosts J R) (t : Table J) (log : List (Entry R)) (u : Table J) (longer : List (Entry R)) : Type 0 where
+    pub noted : List (Entry R)
+    pub logged : longer ≡ log ++ noted
+    pub answered : answers_of noted ≡ answers k t (calls_of noted)
+    pub stands : u ≡ run k t (calls_of noted)

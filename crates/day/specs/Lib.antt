@@ -1,3 +1,4 @@
+pub mod DayRails
 pub mod Days
 pub mod Desks
 pub mod Scripts

@@ -2,6 +2,7 @@
 use Rattle.std.specs.Prelude.{◌≡◌, ℕ, ◌<◌, ◌≤◌, List, ◌++◌, length, take, codes}
 use Rattle.card.specs.Kinds.{joint_text}
 use Rattle.card.specs.Text.{line_of}
+use Rattle.card.specs.declared.kind.CardKind.{Ghosts}
 use Rattle.day.specs.declared.order.Order.{Order}
 use Rattle.day.specs.declared.order.Order.TheVariants as order
 use Rattle.day.specs.declared.order.Verb.{Verb}
@@ -18,22 +19,22 @@ word verb.Sheet = codes "sheet"
 word verb.Figure = codes "figure"
 word verb.Class = codes "class"
 
--- the text of an order, for cards of the kind with this letter on line 1 and these keys behind it
-module _ {R : Type 0} (letter : ℕ) (ks : List (List ℕ)) (values : R → List ℕ) where
+-- the text of an order, for cards of the kind k
+module _ {R : Type 0} {N : ℕ} (k : Ghosts R N) where
   abbrev pub order_text : Order R → List ℕ
-  order_text (order.Hang p r) = line_of (codes "hang") p ++ joint_text letter ks (values r)
+  order_text (order.Hang p r) = line_of (codes "hang") p ++ joint_text k r
   order_text (order.Lift p) = line_of (codes "lift") p
-  order_text (order.Back p r) = line_of (codes "back") p ++ joint_text letter ks (values r)
+  order_text (order.Back p r) = line_of (codes "back") p ++ joint_text k r
   order_text (order.Scrap p) = line_of (codes "scrap") p
   order_text (order.State p) = line_of (codes "state") p
   order_text (order.Sheet p) = line_of (codes "sheet") p
   order_text (order.Figure p i) = line_of (codes "figure") p ++ line_of (codes "mode") i
   order_text (order.Class n) = line_of (codes "class") n
 
-  -- the bytes of text from 'start' to n are the card
-  pub record CardBehind (text : List ℕ) (start : ℕ) (r : R) (n : ℕ) : Type 0 where
+  -- the first n bytes of text are what the order has behind its first line, which has this verb and number
+  pub record Behind (v : Verb) (number : ℕ) (text : List ℕ) (o : Order R) (n : ℕ) : Type 0 where
     pub within : n ≤ length text
-    pub taken : take n text ≡ take start text ++ joint_text letter ks (values r)
+    pub taken : line_of (word v) number ++ take n text ≡ order_text o
 
   -- the first n bytes of text are the order
   pub record TookOrder (text : List ℕ) (o : Order R) (n : ℕ) : Type 0 where

@@ -1,14 +1,15 @@
 // A coordinator's desk: a rail, the slips that are out, and the day's log.
-ghost use Rattle.std.specs.Prelude.{◌≡◌, [], ◌∷◌, ◌++◌, IfOk, Ok, vec_len, MatchOption, OnOk};
+ghost use Rattle.std.specs.Prelude.{◌≡◌, ◌<◌, [], IfOk, vec_len, vec_capacity, MatchOption, OnOk, OnErr, OnSome};
 ghost use Rattle.day.specs.Days.{NoneFor, Carried};
-ghost use Rattle.day.specs.Desks.{Went};
-ghost use Rattle.day.specs.declared.order.Order.TheVariants.{Class};
+ghost use Rattle.day.specs.Desks.{Called, HungBack, Went, Unchanged, Ended};
+ghost use Rattle.day.specs.declared.desk.Outcome.TheVariants.{Made};
 ghost use Rattle.rail.specs.Model.{table_of};
-ghost use Rattle.rail.specs.Table.{answer, after};
+ghost use Rattle.rail.specs.Table.{answer, as_answer};
 ghost use Rattle.rail.specs.declared.call.Call.TheVariants.{Hang, Lift, HangBack, Scrap, AskState, AskSheet, AskFigure};
 
 use crate::order::Order;
 use joint::kind::Kind;
+use places::fault::RailFault;
 use rail::audit::Standing;
 use rail::call::{Answer, Call};
 use rail::rail::Rail;
@@ -21,18 +22,18 @@ pub struct Kept<R> {
     pub card: R,
 }
 
-// The calls of a day, and what was answered to each.
-#[derive(Drop)]
-pub struct Log<R> {
-    pub calls: Vec<Call<R>>,
-    pub answers: Vec<Answer<R>>,
+// An entry of the day's log: a call, and what was answered to it.
+#[derive(Clone, Copy)]
+pub struct Entry<R> {
+    pub call: Call<R>,
+    pub answer: Answer<R>,
 }
 
 // What became of an order.
 #[derive(Clone, Copy)]
 pub enum Outcome<R> {
     // a call was made, and answered
-    Made(Call<R>, Answer<R>),
+    Made(Entry<R>),
     // no slip is kept for this place
     NoSlip(usize),
     // classes go from 0 to 255
@@ -40,273 +41,234 @@ pub enum Outcome<R> {
 }
 
 pub struct Desk<'a, K: Kind> {
-    pub rail: Rail<'a, K>,
-    pub kept: Vec<Kept<K::Joint>>,
-    pub log: Log<K::Joint>,
+    rail: Rail<'a, K>,
+    // in the order of the lifts
+    kept: Vec<Kept<K::Joint>>,
+    log: Vec<Entry<K::Joint>>,
+}
+
+// A day that has ended: how the places stand, and the log, whose entries from `ended` on ended it.
+#[derive(Drop)]
+pub struct Closed<R> {
+    pub standing: Standing,
+    pub log: Vec<Entry<R>>,
+    pub ended: usize,
 }
 
 // Takes out the slip that is kept for a place.
 fn take_slip<R>(slips: &mut Vec<Kept<R>>, place: usize) -> Option<Kept<R>>
-    ensures { MatchOption result (NoneFor slips.old.items place × (slips.new.items ≡ slips.old.items)) (λ k. k.slip.place ≡ place) }
+    ensures taken { MatchOption result (NoneFor slips.old.items place × (slips.new.items ≡ slips.old.items)) (λ k. k.slip.place ≡ place) }
+    ensures room { OnSome result (vec_len slips.new < vec_capacity slips.new) }
 {
-    for i in 0..slips.len() {
-        if slips[i].slip.place() == place {
-            return Some(slips.remove(i));
+    let at = slips.iter().position(|kept| kept.slip.place() == place)?;
+    Some(slips.remove(at))
+}
+
+impl<R> Entry<R> {
+    // A call with its answer, or with the rail's refusal.
+    fn new(call: Call<R>, answered: Result<Answer<R>, RailFault>) -> Entry<R>
+        ensures { result ≡ record { call = call; answer = as_answer (λ a. a) answered } }
+    {
+        match answered {
+            Ok(answer) => Entry { call, answer },
+            Err(fault) => Entry {
+                call,
+                answer: Answer::Refused(fault),
+            },
         }
     }
-    None
 }
 
-impl<R: Copy> Log<R> {
-    // One call more, with its answer.
-    fn note(&mut self, call: Call<R>, answer: Answer<R>) -> Result<(), AllocError>
-        ensures { OnOk result ((self.new.calls.items ≡ self.old.calls.items ++ (call ∷ [])) × (self.new.answers.items ≡ self.old.answers.items ++ (answer ∷ []))) }
-    {
-        self.calls.push(call)?;
-        self.answers.push(answer)?;
-        Ok(())
-    }
-}
-
-impl<R: Copy> Log<R> {
-    // The same, unless a call before it could not be noted.
-    fn then_note(
-        &mut self,
-        so_far: Result<(), AllocError>,
-        call: Call<R>,
-        answer: Answer<R>,
-    ) -> Result<(), AllocError>
-        ensures { OnOk result ((so_far ≡ Ok tt) × (self.new.calls.items ≡ self.old.calls.items ++ (call ∷ [])) × (self.new.answers.items ≡ self.old.answers.items ++ (answer ∷ []))) }
-    {
-        so_far?;
-        self.note(call, answer)
-    }
+fn made<R>(call: Call<R>, answered: Result<Answer<R>, RailFault>) -> Outcome<R>
+    ensures { result ≡ Made (record { call = call; answer = as_answer (λ a. a) answered }) }
+{
+    Outcome::Made(Entry::new(call, answered))
 }
 
 impl<'a, K: Kind> Desk<'a, K> {
     // A desk at the beginning of its day.
     pub fn new(heap: Global, rail: Rail<'a, K>) -> Desk<'a, K>
-        ensures { (table_of result.rail ≡ table_of rail.entry) × (result.log.calls.items ≡ []) × (result.log.answers.items ≡ []) }
+        ensures { (table_of result.rail ≡ table_of rail.entry) × (result.log.items ≡ []) }
     {
-        let log = Log {
-            calls: Vec::new(heap),
-            answers: Vec::new(heap),
-        };
         Desk {
             rail,
             kept: Vec::new(heap),
-            log,
+            log: Vec::new(heap),
         }
     }
 
-    fn hang(&mut self, place: usize, given: K::Joint) -> Answer<K::Joint>
-        ensures table { table_of self.new.rail ≡ after K.Kind (table_of self.old.rail) (Hang place given) }
-        ensures answer { result ≡ answer K.Kind (table_of self.old.rail) (Hang place given) }
-        ensures log { self.new.log ≡ self.old.log }
+    fn hang(&mut self, place: usize, given: K::Joint) -> Result<Answer<K::Joint>, RailFault>
+        ensures { Called K.Kind self.old (Hang place given) result self.new }
     {
-        match self.rail.hang(place, given) {
-            Ok(sheet) => Answer::Shows(sheet),
-            Err(fault) => Answer::Refused(fault),
-        }
-    }
-
-    // Keeps a slip with its card. Without memory for it the card is hung back at once.
-    fn keep(&mut self, slip: Slip, card: K::Joint) -> Result<(), AllocError>
-        ensures { OnOk result ((table_of self.new.rail ≡ table_of self.old.rail) × (self.new.log ≡ self.old.log)) }
-    {
-        match self.kept.push(Kept { slip, card }) {
-            Ok(()) => Ok(()),
-            Err(refused) => {
-                let Kept { slip, card } = refused.value;
-                if let Err((slip, _)) = self.rail.hang_back(slip, card) {
-                    let _ = self.rail.scrap(slip);
-                }
-                Err(AllocError)
-            }
-        }
+        let sheet = self.rail.hang(place, given)?;
+        Ok(Answer::Shows(sheet))
     }
 
     // Lifts a card, and keeps the slip with what the card says.
-    fn lift(&mut self, place: usize) -> Result<Answer<K::Joint>, AllocError>
-        ensures { IfOk result (λ a. (table_of self.new.rail ≡ after K.Kind (table_of self.old.rail) (Lift place)) × (a ≡ answer K.Kind (table_of self.old.rail) (Lift place)) × (self.new.log ≡ self.old.log)) }
+    fn lift(&mut self, place: usize) -> Result<Answer<K::Joint>, RailFault>
+        requires { vec_len self.old.kept < vec_capacity self.old.kept }
+        ensures { Called K.Kind self.old (Lift place) result self.new }
     {
         let held = self.rail.joint(place);
-        match self.rail.lift(place) {
-            Ok(slip) => {
-                let answer = Answer::Handed(slip.number(), slip.place());
-                match held {
-                    Ok(card) => self.keep(slip, card)?,
-                    Err(_) => unreachable(),
-                }
-                Ok(answer)
-            }
-            Err(fault) => Ok(Answer::Refused(fault)),
-        }
+        let slip = self.rail.lift(place)?;
+        let handed = Answer::Handed(slip.number(), slip.place());
+        let card = held.unwrap();
+        self.kept.push_reserved(Kept { slip, card });
+        Ok(handed)
     }
 
     // Hangs a card back by a slip. A refused slip is kept on.
-    fn back(
-        &mut self,
-        kept: Kept<K::Joint>,
-        given: K::Joint,
-    ) -> Result<Answer<K::Joint>, AllocError>
-        ensures { IfOk result (λ a. (table_of self.new.rail ≡ after K.Kind (table_of self.old.rail) (HangBack kept.slip.number kept.slip.place given)) × (a ≡ answer K.Kind (table_of self.old.rail) (HangBack kept.slip.number kept.slip.place given)) × (self.new.log ≡ self.old.log)) }
+    fn back(&mut self, kept: Kept<K::Joint>, given: K::Joint) -> Result<Answer<K::Joint>, RailFault>
+        requires { vec_len self.old.kept < vec_capacity self.old.kept }
+        ensures { Called K.Kind self.old (HangBack kept.slip.number kept.slip.place given) result self.new }
     {
         let Kept { slip, card } = kept;
         match self.rail.hang_back(slip, given) {
             Ok(sheet) => Ok(Answer::Shows(sheet)),
             Err((slip, fault)) => {
-                self.keep(slip, card)?;
-                Ok(Answer::Refused(fault))
+                self.kept.push_reserved(Kept { slip, card });
+                Err(fault)
             }
         }
     }
 
-    fn scrap(&mut self, slip: Slip) -> Answer<K::Joint>
-        ensures table { table_of self.new.rail ≡ after K.Kind (table_of self.old.rail) (Scrap slip.number slip.place) }
-        ensures answer { result ≡ answer K.Kind (table_of self.old.rail) (Scrap slip.number slip.place) }
-        ensures log { self.new.log ≡ self.old.log }
+    fn scrap(&mut self, slip: Slip) -> Result<Answer<K::Joint>, RailFault>
+        ensures called { Called K.Kind self.old (Scrap slip.number slip.place) result self.new }
         ensures kept { self.new.kept ≡ self.old.kept }
     {
-        match self.rail.scrap(slip) {
-            Ok(()) => Answer::Done,
-            Err(fault) => Answer::Refused(fault),
-        }
+        self.rail.scrap(slip)?;
+        Ok(Answer::Done)
     }
 
-    fn state(&self, place: usize) -> Answer<K::Joint>
-        ensures { result ≡ answer K.Kind (table_of self.now.rail) (AskState place) }
+    fn state(&self, place: usize) -> Result<Answer<K::Joint>, RailFault>
+        ensures { as_answer (λ a. a) result ≡ answer K.Kind (table_of self.now.rail) (AskState place) }
     {
-        match self.rail.state(place) {
-            Ok(state) => Answer::Stands(state),
-            Err(fault) => Answer::Refused(fault),
-        }
+        let state = self.rail.state(place)?;
+        Ok(Answer::Stands(state))
     }
 
-    fn sheet(&self, place: usize) -> Answer<K::Joint>
-        ensures { result ≡ answer K.Kind (table_of self.now.rail) (AskSheet place) }
+    fn sheet(&self, place: usize) -> Result<Answer<K::Joint>, RailFault>
+        ensures { as_answer (λ a. a) result ≡ answer K.Kind (table_of self.now.rail) (AskSheet place) }
     {
-        match self.rail.sheet(place) {
-            Ok(sheet) => Answer::Shows(sheet),
-            Err(fault) => Answer::Refused(fault),
-        }
+        let sheet = self.rail.sheet(place)?;
+        Ok(Answer::Shows(sheet))
     }
 
-    fn figure(&self, place: usize, mode: u32) -> Answer<K::Joint>
-        ensures { result ≡ answer K.Kind (table_of self.now.rail) (AskFigure place mode) }
+    fn figure(&self, place: usize, mode: u32) -> Result<Answer<K::Joint>, RailFault>
+        ensures { as_answer (λ a. a) result ≡ answer K.Kind (table_of self.now.rail) (AskFigure place mode) }
     {
-        match self.rail.figure(place, mode) {
-            Ok(figure) => Answer::Prints(figure),
-            Err(fault) => Answer::Refused(fault),
-        }
+        let figure = self.rail.figure(place, mode)?;
+        Ok(Answer::Prints(figure))
     }
 
-    // How many cards of a class hang, where there is such a class.
-    fn class_of(&self, class: u32) -> Outcome<K::Joint>
-        ensures { Carried K.Kind (table_of self.now.rail) self.now.kept.items (Class class) result (table_of self.now.rail) }
-    {
-        if class > 255 {
-            return Outcome::NoClass(class);
-        }
-        let class = class as u8;
-        Outcome::Made(
-            Call::AskClass(class),
-            Answer::Counts(self.rail.class_count(class)),
-        )
-    }
-
-    // Makes the call of an order.
-    fn make(&mut self, order: Order<K::Joint>) -> Result<Outcome<K::Joint>, AllocError>
-        ensures { IfOk result (λ x. Carried K.Kind (table_of self.old.rail) self.old.kept.items order x (table_of self.new.rail) × (self.new.log ≡ self.old.log)) }
+    // Makes the call of an order. There is room for the slip that it may hand out.
+    fn make(&mut self, order: Order<K::Joint>) -> Outcome<K::Joint>
+        requires { vec_len self.old.kept < vec_capacity self.old.kept }
+        ensures carried { Carried K.Kind (table_of self.old.rail) self.old.kept.items order result (table_of self.new.rail) }
+        ensures log { self.new.log ≡ self.old.log }
     {
         match order {
-            Order::Hang(place, given) => {
-                Ok(Outcome::Made(Call::Hang(place, given), self.hang(place, given)))
-            }
-            Order::Lift(place) => Ok(Outcome::Made(Call::Lift(place), self.lift(place)?)),
+            Order::Hang(place, given) => made(Call::Hang(place, given), self.hang(place, given)),
+            Order::Lift(place) => made(Call::Lift(place), self.lift(place)),
             Order::Back(place, given) => match take_slip(&mut self.kept, place) {
                 Some(kept) => {
                     let call = Call::HangBack(kept.slip.number(), place, given);
-                    Ok(Outcome::Made(call, self.back(kept, given)?))
+                    made(call, self.back(kept, given))
                 }
-                None => Ok(Outcome::NoSlip(place)),
+                None => Outcome::NoSlip(place),
             },
             Order::Scrap(place) => match take_slip(&mut self.kept, place) {
                 Some(Kept { slip, card: _ }) => {
                     let call = Call::Scrap(slip.number(), place);
-                    Ok(Outcome::Made(call, self.scrap(slip)))
+                    made(call, self.scrap(slip))
                 }
-                None => Ok(Outcome::NoSlip(place)),
+                None => Outcome::NoSlip(place),
             },
-            Order::State(place) => Ok(Outcome::Made(Call::AskState(place), self.state(place))),
-            Order::Sheet(place) => Ok(Outcome::Made(Call::AskSheet(place), self.sheet(place))),
+            Order::State(place) => made(Call::AskState(place), self.state(place)),
+            Order::Sheet(place) => made(Call::AskSheet(place), self.sheet(place)),
             Order::Figure(place, mode) => {
-                Ok(Outcome::Made(Call::AskFigure(place, mode), self.figure(place, mode)))
+                made(Call::AskFigure(place, mode), self.figure(place, mode))
             }
-            Order::Class(class) => Ok(self.class_of(class)),
+            Order::Class(class) => match u8::try_from(class) {
+                Ok(class) => {
+                    let count = self.rail.class_count(class);
+                    made(Call::AskClass(class), Ok(Answer::Counts(count)))
+                }
+                Err(_) => Outcome::NoClass(class),
+            },
         }
     }
 
-    // Carries out an order, and notes the call in the log.
+    // Carries out an order, and notes the call in the log. Room for both comes first: without it no call is made.
     pub fn carry_out(&mut self, order: Order<K::Joint>) -> Result<Outcome<K::Joint>, AllocError>
         ensures carried { IfOk result (λ x. Carried K.Kind (table_of self.old.rail) self.old.kept.items order x (table_of self.new.rail)) }
         ensures stretch { OnOk result (Went K.Kind self.old self.new) }
+        ensures unchanged { OnErr result (Unchanged self.old self.new) }
     {
-        match self.make(order)? {
-            Outcome::Made(call, answer) => {
-                self.log.note(call, answer)?;
-                Ok(Outcome::Made(call, answer))
+        self.kept.reserve(1)?;
+        self.log.reserve(1)?;
+        match self.make(order) {
+            Outcome::Made(entry) => {
+                self.log.push_reserved(entry);
+                Ok(Outcome::Made(entry))
             }
-            Outcome::NoSlip(place) => Ok(Outcome::NoSlip(place)),
-            Outcome::NoClass(class) => Ok(Outcome::NoClass(class)),
+            none => Ok(none),
         }
     }
 
     // Hangs a card back unchanged, and notes it; should the rail refuse it, the slip is scrapped.
-    // The slip is spent also where there is no memory to note it: the log then ends early, which the answer says.
-    fn settle(
-        &mut self,
-        slip: Slip,
-        card: K::Joint,
-        so_far: Result<(), AllocError>,
-    ) -> Result<(), AllocError>
+    // The slip is spent also where there is no memory to note it, which the answer says.
+    fn settle(&mut self, slip: Slip, card: K::Joint) -> Result<(), AllocError>
         ensures kept { self.new.kept ≡ self.old.kept }
-        ensures stretch { OnOk result ((so_far ≡ Ok tt) × Went K.Kind self.old self.new) }
+        ensures back { OnOk result (HungBack K.Kind self.old slip card self.new) }
+        ensures stretch { OnOk result (Went K.Kind self.old self.new) }
     {
         let number = slip.number();
         let place = slip.place();
+        let back = Call::HangBack(number, place, card);
         match self.rail.hang_back(slip, card) {
             Ok(sheet) => {
-                let back = Call::HangBack(number, place, card);
-                self.log.then_note(so_far, back, Answer::Shows(sheet))
+                self.log.push(Entry::new(back, Ok(Answer::Shows(sheet))))?;
+                Ok(())
             }
             Err((slip, fault)) => {
-                let back = Call::HangBack(number, place, card);
-                let noted = self.log.then_note(so_far, back, Answer::Refused(fault));
-                let answer = self.scrap(slip);
-                self.log
-                    .then_note(noted, Call::Scrap(number, place), answer)
+                let scrap = Call::Scrap(number, place);
+                let scrapped = self.scrap(slip);
+                self.log.push(Entry::new(back, Err(fault)))?;
+                self.log.push(Entry::new(scrap, scrapped))?;
+                Ok(())
             }
         }
     }
 
-    // Hangs back unchanged every card that is still lifted: no slip is out after this.
+    // Hangs back unchanged every card that is still lifted, the last that was lifted first: no slip is out after this.
+    // Where there was no memory to note them all, the answer says so.
+    #[tactic(auto, using(crate::proofs::Goes::goes_on_noted))]
     pub fn settle_all(&mut self) -> Result<(), AllocError>
         ensures spent { vec_len self.new.kept ≡ 0 }
         ensures stretch { OnOk result (Went K.Kind self.old self.new) }
     {
         let mut noted = Ok(());
         while let Some(Kept { slip, card }) = self.kept.pop() {
-            noted = self.settle(slip, card, noted);
+            noted = noted.and(self.settle(slip, card));
         }
         noted
     }
 
     // Ends the day: every slip is spent, and the log is handed over with how the places stand.
-    pub fn close(mut self) -> (Result<(), AllocError>, Standing, Log<K::Joint>) {
+    pub fn close(mut self) -> Result<Closed<K::Joint>, AllocError>
+        ensures { IfOk result (Ended K.Kind self.entry) }
+    {
+        let ended = self.log.len();
         let noted = self.settle_all();
         let Desk { rail, kept, log } = self;
         kept.destroy_empty();
-        (noted, rail.audit(), log)
+        noted?;
+        let standing = rail.audit();
+        Ok(Closed {
+            standing,
+            log,
+            ended,
+        })
     }
 }

@@ -1,10 +1,11 @@
 // The orders of a script: what is to be done on a rail, in the form of a card's lines.
-ghost use Rattle.std.specs.Prelude.{◌≡◌, ◌≤◌, length, IfOk};
+ghost use Rattle.std.specs.Prelude.{◌≡◌, IfOk};
 ghost use Rattle.card.specs.Text.{TookLine};
-ghost use Rattle.day.specs.Scripts.{word, CardBehind, TookOrder};
+ghost use Rattle.day.specs.Scripts.{word, Behind, TookOrder};
 
 use card::fault::TextFault;
-use card::kind::{CardKind, read_joint};
+use card::joint_card::read_joint;
+use card::kind::CardKind;
 use card::lines::read_line;
 
 #[derive(Clone, Copy)]
@@ -75,38 +76,36 @@ fn read_verb(text: &[u8]) -> Result<(Verb, u32, usize), TextFault>
     Err(TextFault::NotKey(1))
 }
 
-// A card behind the line of its order.
-fn read_behind<R: CardKind>(text: &[u8], start: usize) -> Result<(R, usize), TextFault>
-    requires { start ≤ length text.now }
-    ensures { IfOk result (λ p. CardBehind R.initial R.keys R.fields text.now start p.0 p.1) }
+// The order whose first line has this verb and number, and the bytes that it takes behind that line.
+fn read_behind<const N: usize, R: CardKind<N>>(
+    verb: Verb,
+    value: u32,
+    text: &[u8],
+) -> Result<(Order<R>, usize), TextFault>
+    ensures { IfOk result (λ p. Behind R.CardKind verb value text.now p.0 p.1) }
 {
-    let (card, taken) = read_joint::<R>(&text[start..])?;
-    Ok((card, start + taken))
+    let place = value as usize;
+    match verb {
+        Verb::Hang => read_joint(text).map(|(card, n)| (Order::Hang(place, card), n)),
+        Verb::Lift => Ok((Order::Lift(place), 0)),
+        Verb::Back => read_joint(text).map(|(card, n)| (Order::Back(place, card), n)),
+        Verb::Scrap => Ok((Order::Scrap(place), 0)),
+        Verb::State => Ok((Order::State(place), 0)),
+        Verb::Sheet => Ok((Order::Sheet(place), 0)),
+        Verb::Figure => {
+            read_line(b"mode", text, 2).map(|(mode, n)| (Order::Figure(place, mode), n))
+        }
+        Verb::Class => Ok((Order::Class(value), 0)),
+    }
 }
 
 // The order at the front of a text, and the bytes that it takes.
-pub fn read_order<R: CardKind>(text: &[u8]) -> Result<(Order<R>, usize), TextFault>
-    ensures { IfOk result (λ p. TookOrder R.initial R.keys R.fields text.now p.0 p.1) }
+pub fn read_order<const N: usize, R: CardKind<N>>(
+    text: &[u8],
+) -> Result<(Order<R>, usize), TextFault>
+    ensures { IfOk result (λ p. TookOrder R.CardKind text.now p.0 p.1) }
 {
-    let (verb, value, taken) = read_verb(text)?;
-    let place = value as usize;
-    match verb {
-        Verb::Hang => {
-            let (card, end) = read_behind::<R>(text, taken)?;
-            Ok((Order::Hang(place, card), end))
-        }
-        Verb::Lift => Ok((Order::Lift(place), taken)),
-        Verb::Back => {
-            let (card, end) = read_behind::<R>(text, taken)?;
-            Ok((Order::Back(place, card), end))
-        }
-        Verb::Scrap => Ok((Order::Scrap(place), taken)),
-        Verb::State => Ok((Order::State(place), taken)),
-        Verb::Sheet => Ok((Order::Sheet(place), taken)),
-        Verb::Figure => {
-            let (mode, more) = read_line(b"mode", &text[taken..], 2)?;
-            Ok((Order::Figure(place, mode), taken + more))
-        }
-        Verb::Class => Ok((Order::Class(value), taken)),
-    }
+    let (verb, value, line) = read_verb(text)?;
+    let (order, behind) = read_behind(verb, value, &text[line..])?;
+    Ok((order, line + behind))
 }

@@ -1,68 +1,95 @@
 // The account of a day, a line for each call.
-use crate::desk::Outcome;
-use joint::sheet::Sheet;
+use crate::desk::{Entry, Outcome};
+use joint::fault::FaultCode;
+use joint::sheet::{Governing, Sheet};
 use places::place::State;
 use rail::call::{Answer, Call};
-use std::io;
+use std::fmt;
 
 // The call, without its card.
-fn print_call<R>(rt: &HostRuntime, call: &Call<R>) -> io::Result<()> {
-    match call {
-        Call::Hang(place, _) => print!(rt; "hang {place}: "),
-        Call::Lift(place) => print!(rt; "lift {place}: "),
-        Call::HangBack(number, place, _) => { print!(rt; "hang back by slip {number}/{place}: ") }
-        Call::Scrap(number, place) => print!(rt; "scrap by slip {number}/{place}: "),
-        Call::AskState(place) => print!(rt; "state of {place}: "),
-        Call::AskJoint(place) => print!(rt; "joint of {place}: "),
-        Call::AskSheet(place) => print!(rt; "sheet of {place}: "),
-        Call::AskFigure(place, mode) => print!(rt; "figure of {place}, mode {mode}: "),
-        Call::AskClass(class) => print!(rt; "cards of class {class}: "),
+#[derive(Drop)]
+struct CallText<'a, R>(&'a Call<R>);
+
+#[derive(Drop)]
+struct SheetText<'a>(&'a Sheet);
+
+#[derive(Drop)]
+pub struct FaultText(pub FaultCode);
+
+#[derive(Drop)]
+struct AnswerText<'a, R>(&'a Answer<R>);
+
+impl<R> fmt::Display for CallText<'_, R> {
+    fn fmt<W: fmt::Write>(&self, f: &mut fmt::Formatter<W>) -> fmt::Result {
+        match self.0 {
+            Call::Hang(place, _) => write!(f, "hang {place}"),
+            Call::Lift(place) => write!(f, "lift {place}"),
+            Call::HangBack(number, place, _) => write!(f, "hang back by slip {number}/{place}"),
+            Call::Scrap(number, place) => write!(f, "scrap by slip {number}/{place}"),
+            Call::AskState(place) => write!(f, "state of {place}"),
+            Call::AskJoint(place) => write!(f, "joint of {place}"),
+            Call::AskSheet(place) => write!(f, "sheet of {place}"),
+            Call::AskFigure(place, mode) => write!(f, "figure of {place}, mode {mode}"),
+            Call::AskClass(class) => write!(f, "cards of class {class}"),
+        }
     }
 }
 
-fn print_sheet(rt: &HostRuntime, sheet: &Sheet) -> io::Result<()> {
-    let shear = sheet.shear.figure;
-    let mode = sheet.shear.mode;
-    let tie = sheet.tying.figure;
-    let tiemode = sheet.tying.mode;
-    print!(rt; "shear={shear} mode={mode} tie={tie} tiemode={tiemode}")?;
-    let class = sheet.class;
-    let unmet = sheet.unmet;
-    let count = sheet.count;
-    println!(rt; " class={class} unmet={unmet} count={count}")
-}
-
-pub fn print_fault(rt: &HostRuntime, code: (u32, u32, usize)) -> io::Result<()> {
-    let (layer, number, at) = code;
-    println!(rt; "refused layer={layer} fault={number} at={at}")
-}
-
-fn print_answer<R>(rt: &HostRuntime, answer: &Answer<R>) -> io::Result<()> {
-    match answer {
-        Answer::Done => println!(rt; "done"),
-        Answer::Handed(number, place) => println!(rt; "slip {number}/{place}"),
-        Answer::Stands(State::Empty) => println!(rt; "empty"),
-        Answer::Stands(State::Hanging) => println!(rt; "hanging"),
-        Answer::Stands(State::Lifted) => println!(rt; "lifted"),
-        Answer::Holds(_) => println!(rt; "a card"),
-        Answer::Shows(sheet) => print_sheet(rt, sheet),
-        Answer::Prints(Some(figure)) => println!(rt; "{figure}"),
-        Answer::Prints(None) => println!(rt; "does not bind"),
-        Answer::Counts(n) => println!(rt; "{n}"),
-        Answer::Refused(fault) => print_fault(rt, fault.code()),
+// Where no tying mode binds, the figure and the mode are 0.
+impl fmt::Display for SheetText<'_> {
+    fn fmt<W: fmt::Write>(&self, f: &mut fmt::Formatter<W>) -> fmt::Result {
+        let Sheet {
+            shear,
+            tying,
+            class,
+            unmet,
+            count,
+        } = *self.0;
+        let none = Governing { mode: 0, figure: 0 };
+        let tying = tying.unwrap_or(none);
+        write!(f, "shear={} mode={} ", shear.figure, shear.mode)?;
+        write!(f, "tie={} tiemode={} ", tying.figure, tying.mode)?;
+        write!(f, "class={class} unmet={unmet} count={count}")
     }
 }
 
-// A call with its answer.
-pub fn print_made<R>(rt: &HostRuntime, call: &Call<R>, answer: &Answer<R>) -> io::Result<()> {
-    print_call(rt, call)?;
-    print_answer(rt, answer)
+impl fmt::Display for FaultText {
+    fn fmt<W: fmt::Write>(&self, f: &mut fmt::Formatter<W>) -> fmt::Result {
+        let FaultCode { layer, number, at } = self.0;
+        write!(f, "refused layer={layer} fault={number} at={at}")
+    }
 }
 
-pub fn print_outcome<R>(rt: &HostRuntime, outcome: &Outcome<R>) -> io::Result<()> {
-    match outcome {
-        Outcome::Made(call, answer) => print_made(rt, call, answer),
-        Outcome::NoSlip(place) => println!(rt; "no slip is kept for {place}"),
-        Outcome::NoClass(class) => println!(rt; "there is no class {class}"),
+impl<R> fmt::Display for AnswerText<'_, R> {
+    fn fmt<W: fmt::Write>(&self, f: &mut fmt::Formatter<W>) -> fmt::Result {
+        match self.0 {
+            Answer::Done => write!(f, "done"),
+            Answer::Handed(number, place) => write!(f, "slip {number}/{place}"),
+            Answer::Stands(State::Empty) => write!(f, "empty"),
+            Answer::Stands(State::Hanging) => write!(f, "hanging"),
+            Answer::Stands(State::Lifted) => write!(f, "lifted"),
+            Answer::Holds(_) => write!(f, "a card"),
+            Answer::Shows(sheet) => write!(f, "{}", SheetText(sheet)),
+            Answer::Prints(Some(figure)) => write!(f, "{figure}"),
+            Answer::Prints(None) => write!(f, "does not bind"),
+            Answer::Counts(count) => write!(f, "{count}"),
+            Answer::Refused(fault) => write!(f, "{}", FaultText(fault.code())),
+        }
+    }
+}
+
+impl<R> fmt::Display for Entry<R> {
+    fn fmt<W: fmt::Write>(&self, f: &mut fmt::Formatter<W>) -> fmt::Result {
+        write!(f, "{}: {}", CallText(&self.call), AnswerText(&self.answer))
+    }
+}
+
+impl<R> fmt::Display for Outcome<R> {
+    fn fmt<W: fmt::Write>(&self, f: &mut fmt::Formatter<W>) -> fmt::Result {
+        match self {
+            Outcome::Made(entry) => write!(f, "{entry}"),
+            Outcome::NoSlip(place) => write!(f, "no slip is kept for {place}"),
+            Outcome::NoClass(class) => write!(f, "there is no class {class}"),
+        }
     }
 }
