@@ -102,6 +102,30 @@ most_small = record { over = omega arith; under = omega arith }
 pub smaller_small : (x y : Ratio) → Small x → Small y → Small (smaller x y)
 smaller_small x y p q = record { over = smaller_over x y 10000 p.over q.over; under = smaller_under x y 10000 p.under q.under }
 
+pub limits_from : (b : Bearing) (x α : Ratio) → b.bolts ≤ 20 → b.bolt ≤ 30 → b.thickness ≤ 400 → Small x → Small α → Limits b x α
+limits_from b x α hm hd ht p q = record {
+  bolts = hm;
+  bolt = hd;
+  thickness = ht;
+  x_over = p.over;
+  x_under = p.under;
+  α_over = q.over;
+  α_under = q.under;
+}
+
+-- the factors of distances round any hole are proper fractions
+pub k_is_proper : (d₀ e : ℕ) → 0 < d₀ → Proper (k d₀ e)
+k_is_proper d₀ e h = omega arith
+
+pub k'_is_proper : (d₀ p : ℕ) → 0 < d₀ → Proper (k' d₀ p)
+k'_is_proper d₀ p h = omega arith
+
+pub u_is_proper : (d₀ e : ℕ) → 0 < d₀ → Proper (u d₀ e)
+u_is_proper d₀ e h = omega arith
+
+pub w_is_proper : (d₀ p : ℕ) → 0 < d₀ → Proper (w d₀ p)
+w_is_proper d₀ p h = omega arith
+
 -- a bearing total of proper factors is a proper fraction
 pub bear_proper : (b : Bearing) (x α : Ratio) → 0 < fu b.steel → Proper x → Proper α → Proper (bear_of b x α)
 bear_proper b x α f p q =
@@ -111,7 +135,7 @@ bear_proper b x α f p q =
 -- a total that was answered: the numbers are workable, and it is the bearing total
 total_cases : (b : Bearing) (x α t : Ratio) (w : Bool) → workable b x α ≡ w → cond w (Some (bear_of b x α)) None ≡ Some t → Limits b x α × (t ≡ bear_of b x α)
 total_cases b x α t true is e = (limits b x α is, cc)
-total_cases b x α t false is e = let z : ◌≡◌ {A = ℕ} 0 1 = cc in absurd (omega arith)
+total_cases b x α t false is e = cc
 
 pub total_some : (b : Bearing) (x α t : Ratio) → total_of b x α ≡ Some t → Limits b x α × (t ≡ bear_of b x α)
 total_some b x α t e = total_cases b x α t (workable b x α) refl e

@@ -1,10 +1,11 @@
 // The bolts of a joint, as a card gives them.
-ghost use Rattle.std.specs.Prelude.{◌≡◌};
+ghost use Rattle.std.specs.Prelude.{◌≡◌, ◌≤◌};
 ghost use Rattle.components.specs.Bears.{on_part, shear_by};
+ghost use Rattle.components.specs.Tabled.{hole_of};
 
 use crate::bearing::Bearing;
 use crate::part::Part;
-use crate::tables::{bolt_strength, shear_area, shear_factor};
+use crate::tables::{bolt_strength, hole, shear_area, shear_factor};
 use resistance::ratio::Ratio;
 
 #[derive(Clone, Copy, PartialEq, Eq, Debug)]
@@ -20,6 +21,14 @@ pub struct Bolts {
 }
 
 impl Bolts {
+    // d0: the hole that a bolt goes through, mm.
+    pub fn hole(self) -> u32
+        ensures value { result ≡ hole_of self.bolt }
+        ensures bound { result ≤ 33 }
+    {
+        hole(self.bolt)
+    }
+
     // So many of these bolts, bearing on a part.
     pub fn on_part(self, count: u32, part: Part) -> Bearing
         ensures { result ≡ on_part self count part.thickness part.steel }

@@ -1,5 +1,5 @@
 -- What admission by the first fault answers.
-use Rattle.std.proofs.Common.{◌≡◌, ℕ, true, false, Some, None, Ok, Err, Option, sym, refl, ap, ◌∙◌, arith}
+use Rattle.std.proofs.Common.{◌≡◌, true, Some, None, Ok, Err, Option, sym, refl, ap, ◌∙◌}
 use denote.Struct.Props.{≡_prop}
 use base.Stored.{coded_bool}
 use Rattle.joint.specs.Admission.{admitted, admission_by}
@@ -9,7 +9,7 @@ use Rattle.joint.specs.declared.fault.JointFault.{JointFault}
 module _ {J R : Type 0} (fault : R → Option JointFault) (make : (r : R) → none_of (fault r) ≡ true → J) where
   err_at : (r : R) (f : JointFault) (o : Option JointFault) (e : fault r ≡ o) → o ≡ Some f → admitted fault make r o e ≡ Err f
   unfolding admitted
-  err_at r f None e q = let z : ◌≡◌ {A = ℕ} 0 1 = cc in absurd (omega arith)
+  err_at r f None e q = cc
   err_at r f (Some g) e q = let h : g ≡ f = cc in ap Err h
 
   -- a fault is answered
@@ -22,7 +22,7 @@ module _ {J R : Type 0} (fault : R → Option JointFault) (make : (r : R) → no
       ok_at : (j : J) (o : Option JointFault) (e : fault (joint j) ≡ o) → admitted fault make (joint j) o e ≡ Ok j
       unfolding admitted
       ok_at j None e = ap Ok (ap (make (joint j)) (≡_prop coded_bool _ _ (ap none_of e) (ok j)) ∙ same j)
-      ok_at j (Some g) e = let z : true ≡ false = sym (ok j) ∙ ap none_of e in let y : ◌≡◌ {A = ℕ} 0 1 = cc in absurd (omega arith)
+      ok_at j (Some g) e = cc (ok j, ap none_of e)
 
       -- what an admitted joint's card says is admitted as it
       pub ok_is : (j : J) → admission_by fault make (joint j) ≡ Ok j
@@ -33,7 +33,7 @@ module _ {J R : Type 0} (fault : R → Option JointFault) (make : (r : R) → no
       kept_at : (r : R) (j : J) (o : Option JointFault) (e : fault r ≡ o) → admitted fault make r o e ≡ Ok j → joint j ≡ r
       unfolding admitted
       kept_at r j None e q = let h : make r (ap none_of e) ≡ j = cc in sym (ap joint h) ∙ said r (ap none_of e)
-      kept_at r j (Some g) e q = let z : ◌≡◌ {A = ℕ} 0 1 = cc in absurd (omega arith)
+      kept_at r j (Some g) e q = cc
 
       -- admission keeps what the card says
       pub kept_is : (r : R) (j : J) → admission_by fault make r ≡ Ok j → joint j ≡ r

@@ -1,5 +1,5 @@
 -- A kind whose modes are lists of expressions keeps the meaning of a kind, whatever the expressions are, if no mode that binds has a fraction over 0.
-use Rattle.std.proofs.Common.{◌≡◌, ℕ, ◌+◌, ◌≤◌, Bool, true, false, cond, eqb, ltb, List, [], ◌∷◌, Some, None, Ok, Option, Result, sym, refl, ◌∙◌, subst, arith}
+use Rattle.std.proofs.Common.{◌≡◌, ℕ, ◌+◌, ◌≤◌, Bool, true, false, cond, eqb, ltb, List, [], ◌∷◌, Some, None, Ok, Option, Result, sym, refl, ◌∙◌, subst}
 use Rattle.std.proofs.lemmas.Bool.{cond_both}
 use Rattle.resistance.specs.Expressions.{printed, figure_of, Allows, margin}
 use Rattle.resistance.specs.declared.expression.Expression.{Expression}
@@ -46,20 +46,20 @@ every_mode P none shear tying hs ht i =
 
 -- the figure that is answered is the one printed
 pub figure_is : (m : Option Expression) (e : Expression) → HeldMode m → m ≡ Some e → figure_of e ≡ printing m
-figure_is None e h is = let z : ◌≡◌ {A = ℕ} 0 1 = cc in absurd (omega arith)
+figure_is None e h is = cc
 figure_is (Some x) e h is = let same : x ≡ e = cc in subst (λ (y : Expression). figure_of y ≡ Some (printed x)) same h
 
 -- of one mode
 bound_some : (m : Option Expression) → some_of m ≡ true → (v : ℕ) × (printing m ≡ Some v)
-bound_some None h = let z : ◌≡◌ {A = ℕ} 0 1 = cc in absurd (omega arith)
+bound_some None h = cc
 bound_some (Some e) h = (printed e, refl)
 
 unbound_none : (m : Option Expression) → some_of m ≡ false → printing m ≡ None
 unbound_none None h = refl
-unbound_none (Some e) h = let z : ◌≡◌ {A = ℕ} 0 1 = cc in absurd (omega arith)
+unbound_none (Some e) h = cc
 
 zero_below : (m : Option Expression) → some_of m ≡ true → Below m 0
-zero_below None h = let z : ◌≡◌ {A = ℕ} 0 1 = cc in absurd (omega arith)
+zero_below None h = cc
 zero_below (Some e) h = zero_allowed e
 
 less_below : (m : Option Expression) (a b : ℕ) → a ≤ b → Below m b → Below m a

@@ -8,7 +8,7 @@ abbrev pub named_at : ℕ → ℕ → Governing
 named_at i v = record { mode = i; figure = v }
 
 pub none_some : {o : Option ℕ} {v : ℕ} → o ≡ None → o ≡ Some v → ⊥
-none_some p q = let z : ◌≡◌ {A = ℕ} 0 1 = cc in omega arith
+none_some p q = cc
 
 same_some : {o : Option ℕ} {v w : ℕ} → o ≡ Some v → o ≡ Some w → v ≡ w
 same_some p q = cc

@@ -19,7 +19,7 @@ none_of None = true
 none_of (Some f) = false
 
 -- what a check, or a list of checks, comes to
-abbrev pub due : Bool → JointFault → Result (Unit {0}) JointFault
+abbrev pub due : {E : Type 0} → Bool → E → Result (Unit {0}) E
 due holds f = cond holds (Ok tt) (Err f)
 
 abbrev pub outcome : Option JointFault → Result (Unit {0}) JointFault

@@ -8,7 +8,7 @@ use components::bolts::Bolts;
 use components::tables::{is_bolt, is_class};
 
 // What must hold, or the fault where it does not.
-fn owed(holds: bool, fault: JointFault) -> Result<(), JointFault>
+pub fn owed<E: Drop>(holds: bool, fault: E) -> Result<(), E>
     ensures { result ≡ due holds fault }
 {
     if holds { Ok(()) } else { Err(fault) }
