@@ -10,10 +10,10 @@ use Rattle.resistance.proofs.Held.{sum_held, GroupLimits, group_sound, group_hel
 use Rattle.resistance.proofs.Ratios.{Proper, smaller_proper, smaller_both}
 use Rattle.components.specs.Bears.{k, k', u, w}
 use Rattle.components.specs.Tabled.{fu, fub, hole_of, area_of, shear_of}
-use Rattle.components.proofs.BearParts.{bear_proper}
+use Rattle.components.proofs.BearParts.{k_is_proper, k'_is_proper, u_is_proper, w_is_proper, bear_proper}
 use Rattle.components.proofs.GroupRanges.{Ranges, group_ranges}
 use Rattle.components.proofs.Listed.{area_range, shear_range}
-use Rattle.components.proofs.Plates.{depth_most}
+use Rattle.components.proofs.Plates.{block_torn}
 use Rattle.joint.specs.Checked.{within}
 use Rattle.joint.specs.Meaning.{Meaning}
 use Rattle.joint.specs.Modes.{printing, Below, Every, SoundMode, HeldMode}
@@ -41,16 +41,16 @@ module _ (j : FinJoint) (a : Admitted j) where
   d₀ = hole_of j.bolts.bolt
 
   k_proper : (e : ℕ) → Proper (k d₀ e)
-  k_proper e = let h = a.bolt.worth in omega arith
+  k_proper e = k_is_proper d₀ e (omega (arith, a.bolt.worth))
 
   k'_proper : (p : ℕ) → Proper (k' d₀ p)
-  k'_proper p = let h = a.bolt.worth in omega arith
+  k'_proper p = k'_is_proper d₀ p (omega (arith, a.bolt.worth))
 
   u_proper : (e : ℕ) → Proper (u d₀ e)
-  u_proper e = let h = a.bolt.worth in omega arith
+  u_proper e = u_is_proper d₀ e (omega (arith, a.bolt.worth))
 
   w_proper : (p : ℕ) → Proper (w d₀ p)
-  w_proper p = let h = a.bolt.worth in omega arith
+  w_proper p = w_is_proper d₀ p (omega (arith, a.bolt.worth))
 
   plate_α_proper : Proper (plate_α j)
   plate_α_proper = smaller_proper (u d₀ j.layout.e1) (w d₀ j.layout.p1) (u_proper j.layout.e1) (w_proper j.layout.p1)
@@ -177,10 +177,10 @@ module _ (j : FinJoint) (a : Admitted j) where
       four n = omega arith
 
   torn_most : torn_of j ≤ 4200
-  torn_most = let h = depth_most j.bolts.rows j.layout.e1 j.layout.p1 a.rows_high a.e1_high a.p1_high in omega arith
+  torn_most = block_torn j.bolts.rows d₀ j.layout.e1 j.layout.p1 a.rows_high a.e1_high a.p1_high
 
   web_torn_bound : web_torn_of j ≤ 4200
-  web_torn_bound = let h = depth_most j.bolts.rows j.parts.e1b j.layout.p1 a.rows_high a.e1b_high a.p1_high in omega arith
+  web_torn_bound = omega (arith, block_torn j.bolts.rows d₀ j.parts.e1b j.layout.p1 a.rows_high a.e1b_high a.p1_high)
 
   -- 64 bits hold every figure
   shear_held : Every HeldMode (shear_modes j)

@@ -1,11 +1,11 @@
 -- What admission of a fin plate answers, from its groups of checks.
-use Rattle.std.specs.Prelude.{◌≡◌, true, ◌++◌, Ok, Err, refl}
-use Rattle.std.proofs.Common.{sym, ap, ◌∙◌}
+use Rattle.std.specs.Prelude.{◌≡◌, true, [], ◌∷◌, Ok, Err, refl}
+use Rattle.std.proofs.Common.{sym, ◌∙◌}
 use Rattle.components.specs.Tabled.{hole_of}
-use Rattle.joint.specs.Checked.{none_of, of_list, then}
+use Rattle.joint.specs.Checked.{none_of, of_list}
 use Rattle.joint.specs.declared.fault.JointFault.{JointFault}
 use Rattle.joint.proofs.Admits.{err_is, ok_is}
-use Rattle.joint.proofs.Turns.{in_turn, none_from, some_from}
+use Rattle.joint.proofs.Turns.{groups_in_turn, none_from, some_from}
 use Rattle.fin.specs.FieldChecks.{checks, first_fault, steel_checks, bolt_checks, layout_checks, part_checks, demand_checks, distance_checks, whole_checks}
 use Rattle.fin.specs.FinAdmission.{make_fin, fin_admission, outcomes}
 use Rattle.fin.specs.declared.fin.Fin.{Fin}
@@ -14,18 +14,9 @@ use Rattle.fin.specs.declared.fin_joint.FinJoint.{FinJoint}
 outcomes_are : (j : FinJoint) → outcomes j ≡ of_list (checks j)
 unfolding checks
 outcomes_are j =
-    let s = steel_checks j.steels in
-    let b = bolt_checks j.bolts in
-    let l = layout_checks j.layout in
-    let p = part_checks j.parts in
-    let d = demand_checks j.demands in
-    let x = distance_checks (hole_of j.bolts.bolt) j.layout j.parts in
-    let y = whole_checks (hole_of j.bolts.bolt) j.bolts.rows j.layout j.parts j.demands in
-    let at_x : then (of_list x) (of_list y) ≡ of_list (x ++ y) = in_turn x y in
-    let at-d : then (of_list d) (then (of_list x) (of_list y)) ≡ of_list (d ++ (x ++ y)) = ap (then (of_list d)) at_x ∙ in_turn d (x ++ y) in
-    let at_p : then (of_list p) (then (of_list d) (then (of_list x) (of_list y))) ≡ of_list (p ++ (d ++ (x ++ y))) = ap (then (of_list p)) at-d ∙ in_turn p (d ++ (x ++ y)) in
-    let at-l : then (of_list l) (then (of_list p) (then (of_list d) (then (of_list x) (of_list y)))) ≡ of_list (l ++ (p ++ (d ++ (x ++ y)))) = ap (then (of_list l)) at_p ∙ in_turn l (p ++ (d ++ (x ++ y))) in
-    ap (then (of_list s)) (ap (then (of_list b)) at-l ∙ in_turn b (l ++ (p ++ (d ++ (x ++ y))))) ∙ in_turn s (b ++ (l ++ (p ++ (d ++ (x ++ y)))))
+    groups_in_turn (steel_checks j.steels ∷ bolt_checks j.bolts ∷ layout_checks j.layout ∷ part_checks j.parts ∷ demand_checks j.demands
+    ∷ distance_checks (hole_of j.bolts.bolt) j.layout j.parts ∷ [])
+    (whole_checks (hole_of j.bolts.bolt) j.bolts.rows j.layout j.parts j.demands)
 
 pub no_fault : (j : FinJoint) → outcomes j ≡ Ok tt → none_of (first_fault j) ≡ true
 no_fault j q = none_from (first_fault j) (sym (outcomes_are j) ∙ q)

@@ -6,7 +6,7 @@ ghost use Rattle.fin.specs.FieldChecks.{steel_checks, layout_checks, part_checks
 ghost use Rattle.fin.specs.FinAdmission.{outcomes};
 
 use crate::fin_joint::{Demands, FinJoint, Layout, Parts, Steels};
-use components::tables::{hole, is_steel};
+use components::tables::is_steel;
 use joint::checks::{allowed, apart, check_bolts, is_within};
 use joint::fault::JointFault;
 
@@ -50,7 +50,7 @@ fn check_demands(d: Demands) -> Result<(), JointFault>
 fn check_distances(j: FinJoint) -> Result<(), JointFault>
     ensures { result ≡ of_list (distance_checks (hole_of j.bolts.bolt) j.layout j.parts) }
 {
-    let d0 = hole(j.bolts.bolt);
+    let d0 = j.bolts.hole();
     let l = j.layout;
     let p = j.parts;
     apart(12, d0, l.e1, 7)?;
@@ -72,7 +72,7 @@ fn check_whole(j: FinJoint) -> Result<(), JointFault>
     if p.e2b >= l.z {
         return Err(JointFault::NoGap(14));
     }
-    let holes = j.bolts.rows as u64 * hole(j.bolts.bolt) as u64;
+    let holes = j.bolts.rows as u64 * j.bolts.hole() as u64;
     if holes as u128 * p.tw as u128 >= 10 * p.av as u128 {
         return Err(JointFault::UsedUp(15));
     }

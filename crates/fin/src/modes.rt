@@ -13,40 +13,47 @@ use components::bearing::{
 };
 use components::column::Column;
 use components::part::Part;
-use components::tables::{hole, ultimate_strength};
+use components::tables::ultimate_strength;
 use resistance::expression::Expression;
 use resistance::group::BoltGroup;
 use resistance::ratio::Ratio;
 
 impl Fin {
-    // The bolts of one column.
+    // The bolts of the column, in a part that ends so far above and below them.
+    fn column_from(&self, e1: u32) -> Column
+        requires spaced { 12 * hole_of self.now.joint.bolts.bolt ≤ 10 * e1 }
+        requires near { e1 ≤ 150 }
+        ensures rows { result.rows ≡ self.now.joint.bolts.rows }
+        ensures end { result.e1 ≡ e1 }
+        ensures pitch { result.p1 ≡ self.now.joint.layout.p1 }
+        ensures hole { result.hole ≡ hole_of self.now.joint.bolts.bolt }
+    {
+        Column {
+            rows: self.joint.bolts.rows,
+            e1,
+            p1: self.joint.layout.p1,
+            hole: self.joint.bolts.hole(),
+        }
+    }
+
+    // In the plate.
     fn column(&self) -> Column
         ensures rows { result.rows ≡ self.now.joint.bolts.rows }
         ensures end { result.e1 ≡ self.now.joint.layout.e1 }
         ensures pitch { result.p1 ≡ self.now.joint.layout.p1 }
         ensures hole { result.hole ≡ hole_of self.now.joint.bolts.bolt }
     {
-        Column {
-            rows: self.joint.bolts.rows,
-            e1: self.joint.layout.e1,
-            p1: self.joint.layout.p1,
-            hole: hole(self.joint.bolts.bolt),
-        }
+        self.column_from(self.joint.layout.e1)
     }
 
-    // The same bolts in the beam web, which ends above the top one.
+    // In the beam web, which ends above the top bolt.
     fn web_column(&self) -> Column
         ensures rows { result.rows ≡ self.now.joint.bolts.rows }
         ensures end { result.e1 ≡ self.now.joint.parts.e1b }
         ensures pitch { result.p1 ≡ self.now.joint.layout.p1 }
         ensures hole { result.hole ≡ hole_of self.now.joint.bolts.bolt }
     {
-        Column {
-            rows: self.joint.bolts.rows,
-            e1: self.joint.parts.e1b,
-            p1: self.joint.layout.p1,
-            hole: hole(self.joint.bolts.bolt),
-        }
+        self.column_from(self.joint.parts.e1b)
     }
 
     // hp: the depth of the plate.
@@ -104,7 +111,7 @@ impl Fin {
         ensures k { result.k ≡ plate_k self.now.joint }
         ensures alpha { result.alpha ≡ plate_α self.now.joint }
     {
-        let d0 = hole(self.joint.bolts.bolt);
+        let d0 = self.joint.bolts.hole();
         let l = self.joint.layout;
         Factors {
             k: edge_factor(d0, l.e2),
@@ -117,7 +124,7 @@ impl Fin {
         ensures k { result.k ≡ plate_k_across self.now.joint }
         ensures alpha { result.alpha ≡ plate_α_across self.now.joint }
     {
-        let d0 = hole(self.joint.bolts.bolt);
+        let d0 = self.joint.bolts.hole();
         let l = self.joint.layout;
         Factors {
             k: edge_factor(d0, l.e1).lesser(spacing_factor(d0, l.p1)),
@@ -129,7 +136,7 @@ impl Fin {
         ensures k { result.k ≡ web_k self.now.joint }
         ensures alpha { result.alpha ≡ web_α self.now.joint }
     {
-        let d0 = hole(self.joint.bolts.bolt);
+        let d0 = self.joint.bolts.hole();
         Factors {
             k: edge_factor(d0, self.joint.parts.e2b),
             alpha: pitch_factor(d0, self.joint.layout.p1),
@@ -140,7 +147,7 @@ impl Fin {
         ensures k { result.k ≡ web_k_across self.now.joint }
         ensures alpha { result.alpha ≡ web_α_across self.now.joint }
     {
-        let d0 = hole(self.joint.bolts.bolt);
+        let d0 = self.joint.bolts.hole();
         Factors {
             k: spacing_factor(d0, self.joint.layout.p1),
             alpha: end_factor(d0, self.joint.parts.e2b),
@@ -229,7 +236,7 @@ impl Fin {
         requires near { edge ≤ 150 }
         ensures { result ≡ Sum ((part.thickness * (2 * edge - hole_of self.now.joint.bolts.bolt) * fu part.steel) ÷ 50) ((part.thickness * part.steel * length) ÷ 20) }
     {
-        let torn = 2 * edge - hole(self.joint.bolts.bolt);
+        let torn = 2 * edge - self.joint.bolts.hole();
         Expression::Sum(part.at_rupture(torn, 50), part.at_yield(length, 20))
     }
 
@@ -263,7 +270,7 @@ impl Fin {
         let b = self.joint.bolts;
         let p = self.joint.parts;
         let fu = ultimate_strength(self.joint.steels.web) as u64;
-        let holes = b.rows as u64 * hole(b.bolt) as u64 * p.tw as u64;
+        let holes = b.rows as u64 * b.hole() as u64 * p.tw as u64;
         Expression::Root(Ratio {
             over: 2 * (10 * p.av as u64 - holes) * fu,
             under: 25,
@@ -326,7 +333,7 @@ impl Fin {
         ensures { result ≡ net_web_tying self.now.joint }
     {
         let b = self.joint.bolts;
-        let net = self.joint.demands.db - b.rows * hole(b.bolt);
+        let net = self.joint.demands.db - b.rows * b.hole();
         Expression::Whole(self.web().at_rupture(9 * net, 100))
     }
 

@@ -4,7 +4,7 @@ use Rattle.std.proofs.lemmas.Bool.{cond_both}
 use Rattle.resistance.specs.Fractions.{smaller}
 use Rattle.components.specs.Bears.{k, u, w, most}
 use Rattle.components.specs.Tabled.{hole_of}
-use Rattle.components.proofs.BearParts.{Limits, Small, k_small, u_small, w_small, most_small, smaller_small}
+use Rattle.components.proofs.BearParts.{Limits, Small, limits_from, k_small, u_small, w_small, most_small, smaller_small}
 use Rattle.header.specs.HeaderModes.{on_plate, on_support, support_edge}
 use Rattle.header.specs.declared.header_joint.HeaderJoint.{HeaderJoint}
 use Rattle.header.specs.Ranges.{Admitted}
@@ -14,29 +14,11 @@ module _ (j : HeaderJoint) (a : Admitted j) where
   d₀ = hole_of j.bolts.bolt
 
   pub plate_limits : Limits (on_plate j) (k d₀ j.layout.e2) (smaller (u d₀ j.layout.e1) (w d₀ j.layout.p1))
-  plate_limits =
-      let x = k_small d₀ j.layout.e2 a.bolt.bound (omega arith) in
-      let α = smaller_small (u d₀ j.layout.e1) (w d₀ j.layout.p1) (u_small d₀ j.layout.e1 a.bolt.bound (omega arith)) (w_small d₀ j.layout.p1 a.bolt.bound a.p1_high) in
-      record {
-        bolts = omega arith;
-        bolt = a.bolt.high;
-        thickness = omega arith;
-        x_over = x.over;
-        x_under = x.under;
-        α_over = α.over;
-        α_under = α.under;
-      }
+  plate_limits = limits_from (on_plate j) (k d₀ j.layout.e2) (smaller (u d₀ j.layout.e1) (w d₀ j.layout.p1)) (omega arith) a.bolt.high (omega arith)
+      (k_small d₀ j.layout.e2 a.bolt.bound (omega arith))
+      (smaller_small (u d₀ j.layout.e1) (w d₀ j.layout.p1) (u_small d₀ j.layout.e1 a.bolt.bound (omega arith)) (w_small d₀ j.layout.p1 a.bolt.bound a.p1_high))
 
   pub support_limits : Limits (on_support j) (support_edge j) (w d₀ j.layout.p1)
-  support_limits =
-      let x = cond_both (eqb j.parts.es 0) most (k d₀ j.parts.es) Small (λ _. most_small) (λ _. k_small d₀ j.parts.es a.bolt.bound (omega arith)) in
-      let α = w_small d₀ j.layout.p1 a.bolt.bound a.p1_high in
-      record {
-        bolts = omega arith;
-        bolt = a.bolt.high;
-        thickness = a.ts_high;
-        x_over = x.over;
-        x_under = x.under;
-        α_over = α.over;
-        α_under = α.under;
-      }
+  support_limits = limits_from (on_support j) (support_edge j) (w d₀ j.layout.p1) (omega arith) a.bolt.high a.ts_high
+      (cond_both (eqb j.parts.es 0) most (k d₀ j.parts.es) Small (λ _. most_small) (λ _. k_small d₀ j.parts.es a.bolt.bound (omega arith)))
+      (w_small d₀ j.layout.p1 a.bolt.bound a.p1_high)

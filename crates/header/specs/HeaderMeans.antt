@@ -9,7 +9,7 @@ use Rattle.resistance.proofs.Held.{sum_held}
 use Rattle.resistance.proofs.Ratios.{Proper, smaller_proper}
 use Rattle.components.specs.Bears.{k, u, w, most}
 use Rattle.components.specs.Tabled.{fu, hole_of}
-use Rattle.components.proofs.BearParts.{bear_proper}
+use Rattle.components.proofs.BearParts.{k_is_proper, u_is_proper, w_is_proper, bear_proper}
 use Rattle.joint.specs.Checked.{within}
 use Rattle.joint.specs.Meaning.{Meaning}
 use Rattle.joint.specs.Modes.{printing, Below, Every, SoundMode, HeldMode}
@@ -21,7 +21,7 @@ use Rattle.header.specs.HeaderModes.{shear_modes, shear_binds, shallow, sides_of
 use Rattle.header.specs.declared.header.Header.{Header}
 use Rattle.header.specs.declared.header_joint.HeaderJoint.{HeaderJoint}
 use Rattle.header.specs.Ranges.{Admitted, ranges}
-use Rattle.components.proofs.Plates.{depth_most}
+use Rattle.components.proofs.Plates.{block_torn}
 use Rattle.header.specs.Tried.{accepted}
 
 -- the modes with an expression are those that bind
@@ -34,13 +34,13 @@ module _ (j : HeaderJoint) (a : Admitted j) where
   d₀ = hole_of j.bolts.bolt
 
   k_proper : (e : ℕ) → Proper (k d₀ e)
-  k_proper e = let h = a.bolt.worth in omega arith
+  k_proper e = k_is_proper d₀ e (omega (arith, a.bolt.worth))
 
   u_proper : (e : ℕ) → Proper (u d₀ e)
-  u_proper e = let h = a.bolt.worth in omega arith
+  u_proper e = u_is_proper d₀ e (omega (arith, a.bolt.worth))
 
   w_proper : (p : ℕ) → Proper (w d₀ p)
-  w_proper p = let h = a.bolt.worth in omega arith
+  w_proper p = w_is_proper d₀ p (omega (arith, a.bolt.worth))
 
   -- no mode that binds has a fraction over 0
   sound : Every SoundMode (shear_modes j)
@@ -54,7 +54,7 @@ module _ (j : HeaderJoint) (a : Admitted j) where
       (omega arith, (plate, (support, (omega arith, (omega arith, ((omega arith, omega arith), (bending, (omega arith, tt))))))))
 
   torn_most : torn_of j ≤ 4200
-  torn_most = let h = depth_most j.bolts.rows j.layout.e1 j.layout.p1 a.rows_high a.e1_high a.p1_high in omega arith
+  torn_most = block_torn j.bolts.rows d₀ j.layout.e1 j.layout.p1 a.rows_high a.e1_high a.p1_high
 
   -- 64 bits hold every figure
   all_held : Every HeldMode (shear_modes j)

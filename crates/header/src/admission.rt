@@ -6,7 +6,7 @@ ghost use Rattle.header.specs.FieldChecks.{steel_checks, layout_checks, part_che
 ghost use Rattle.header.specs.HeaderAdmission.{outcomes};
 
 use crate::header_joint::{Demands, HeaderJoint, Layout, Parts, Steels};
-use components::tables::{hole, is_steel};
+use components::tables::is_steel;
 use joint::checks::{allowed, apart, check_bolts, is_within};
 use joint::fault::JointFault;
 
@@ -49,7 +49,7 @@ fn check_demands(d: Demands) -> Result<(), JointFault>
 fn check_distances(j: HeaderJoint) -> Result<(), JointFault>
     ensures { result ≡ of_list (distance_checks (hole_of j.bolts.bolt) j.layout j.parts) }
 {
-    let d0 = hole(j.bolts.bolt);
+    let d0 = j.bolts.hole();
     let l = j.layout;
     let p = j.parts;
     apart(12, d0, l.e1, 8)?;

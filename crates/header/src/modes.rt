@@ -8,7 +8,6 @@ use crate::header::Header;
 use components::bearing::{Bearing, Factors, MOST, edge_factor, end_factor, pitch_factor};
 use components::column::Column;
 use components::part::Part;
-use components::tables::hole;
 use resistance::expression::Expression;
 use resistance::ratio::Ratio;
 
@@ -32,7 +31,7 @@ impl Header {
             rows: self.joint.bolts.rows,
             e1: self.joint.layout.e1,
             p1: self.joint.layout.p1,
-            hole: hole(self.joint.bolts.bolt),
+            hole: self.joint.bolts.hole(),
         }
     }
 
@@ -95,7 +94,7 @@ impl Header {
         if self.joint.parts.es == 0 {
             return MOST;
         }
-        edge_factor(hole(self.joint.bolts.bolt), self.joint.parts.es)
+        edge_factor(self.joint.bolts.hole(), self.joint.parts.es)
     }
 
     fn bolts_in_shear(&self) -> Expression
@@ -107,7 +106,7 @@ impl Header {
     fn plate_in_bearing(&self) -> Expression
         ensures { result ≡ plate_bearing self.now.joint }
     {
-        let d0 = hole(self.joint.bolts.bolt);
+        let d0 = self.joint.bolts.hole();
         let l = self.joint.layout;
         let factors = Factors {
             k: edge_factor(d0, l.e2),
@@ -120,7 +119,7 @@ impl Header {
     fn support_in_bearing(&self) -> Expression
         ensures { result ≡ support_bearing self.now.joint }
     {
-        let d0 = hole(self.joint.bolts.bolt);
+        let d0 = self.joint.bolts.hole();
         let factors = Factors {
             k: self.support_factor(),
             alpha: pitch_factor(d0, self.joint.layout.p1),
@@ -153,7 +152,7 @@ impl Header {
     fn tearing_block(&self) -> Expression
         ensures { result ≡ block_tearing self.now.joint }
     {
-        let torn = 2 * self.joint.layout.e2 - hole(self.joint.bolts.bolt);
+        let torn = 2 * self.joint.layout.e2 - self.joint.bolts.hole();
         Expression::Sum(
             self.plate().at_rupture(self.torn_sides() * torn, 25),
             self.plate().at_yield(self.column().torn_length(), 10),

@@ -1,12 +1,7 @@
--- `column`: the bolts of an admitted joint are spaced as a column asks.
-use Rattle.std.proofs.Common.{◌*◌, ◌≤◌, arith}
+-- `column`: the plate ends far enough from the bolts.
+use Rattle.std.proofs.Common.{arith}
 use Rattle.fin.specs.Ranges.{ranges}
 use Rattle.fin.proofs.fin.Fin.column.Goals as goal
 
-pub invariant_of-result : goal.invariant_of-result
-invariant_of-result c =
-    let a = ranges c.args.self.now.joint c.args.self.now.ok in
-    let l = c.args.self.now.joint.layout in
-    let end : 12 * c.hole.result ≤ 10 * l.e1 = omega arith in
-    let pitch : 22 * c.hole.result ≤ 10 * l.p1 = omega arith in
-    record { some = a.rows_low; few = a.rows_high; end = a.e1_high; pitch = a.p1_high; end_spaced = end; pitch_spaced = pitch }
+pub column_from-requires : goal.column_from-requires
+column_from-requires c = let a = ranges c.args.self.now.joint c.args.self.now.ok in record { spaced = omega arith; near = omega arith }
