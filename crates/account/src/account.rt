@@ -13,9 +13,9 @@ pub fn account(heap: Global, text: &[u8]) -> Result<String, AllocError>
 {
     let mut out = String::new(heap);
     for card in Cards::of(text) {
-        match card {
-            Ok(card) => write!(out, "{}", judge(card))?,
-            Err(fault) => write!(out, "{}", Fault::from(fault))?,
+        match card.map_err(Fault::from).and_then(judge) {
+            Ok(entry) => write!(out, "{entry}")?,
+            Err(fault) => write!(out, "{fault}")?,
         }
     }
     Ok(out)

@@ -6,7 +6,7 @@ use crate::fault::Fault;
 use card::card::Card;
 use fin::fin::Fin;
 use header::header::Header;
-use joint::sheet::Sheet;
+use joint::sheet::{Governing, Sheet};
 use joint::work::judged_sheet;
 use std::fmt;
 
@@ -16,18 +16,16 @@ pub enum Entry {
     Header(Sheet),
     // the sheet of a fin plate
     Fin(Sheet),
-    Refused(Fault),
 }
 
 // The sheet of a card's joint, or why it is not admitted.
-pub fn judge(card: Card) -> Entry
+pub fn judge(card: Card) -> Result<Entry, Fault>
     ensures { result ≡ entry_of card }
 {
-    let judged = match card {
-        Card::Header(given) => judged_sheet::<Header>(given).map(Entry::Header),
-        Card::Fin(given) => judged_sheet::<Fin>(given).map(Entry::Fin),
-    };
-    judged.unwrap_or_else(|fault| Entry::Refused(Fault::from(fault)))
+    match card {
+        Card::Header(given) => Ok(Entry::Header(judged_sheet::<Header>(given)?)),
+        Card::Fin(given) => Ok(Entry::Fin(judged_sheet::<Fin>(given)?)),
+    }
 }
 
 // The lines of a sheet behind the one that names its kind.
@@ -39,13 +37,13 @@ impl fmt::Display for Lines<'_> {
 
     fn fmt<W: fmt::Write>(&self, f: &mut fmt::Formatter<W>) -> fmt::Result {
         let sheet = self.0;
-        let (tie, tiemode) = sheet.tying.map_or((0, 0), |t| (t.figure, t.mode));
+        let Governing { mode, figure } = sheet.tie();
         write!(
             f,
             "shear={}\nmode={}\n",
             sheet.shear.figure, sheet.shear.mode
         )?;
-        write!(f, "tie={tie}\ntiemode={tiemode}\n")?;
+        write!(f, "tie={figure}\ntiemode={mode}\n")?;
         write!(
             f,
             "class={}\nunmet={}\ncount={}\n",
@@ -54,7 +52,7 @@ impl fmt::Display for Lines<'_> {
     }
 }
 
-// The eight lines of a sheet, or the three of a fault.
+// The eight lines of a sheet.
 impl fmt::Display for Entry {
     ghost output = { λ e. Some (entry_text e) };
 
@@ -62,7 +60,6 @@ impl fmt::Display for Entry {
         match self {
             Entry::Header(sheet) => write!(f, "joint=H\n{}", Lines(sheet)),
             Entry::Fin(sheet) => write!(f, "joint=F\n{}", Lines(sheet)),
-            Entry::Refused(fault) => write!(f, "{fault}"),
         }
     }
 }

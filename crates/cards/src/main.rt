@@ -7,7 +7,7 @@ use std::io::Read;
 // The most that is looked at, bytes.
 const MOST: usize = 65536;
 
-fn run(rt: &HostRuntime) -> anyhow::Result<()> {
+fn main(rt: HostRuntime) -> anyhow::Result<()> {
     let heap = rt.alloc();
     let mut text = Vec::new(heap);
     rt.stdin().take(MOST as u64 + 1).read_to_end(&mut text)?;
@@ -19,8 +19,4 @@ fn run(rt: &HostRuntime) -> anyhow::Result<()> {
     let lines = account(heap, cards)?;
     rt.print(lines.as_str())?;
     Ok(())
-}
-
-fn main(rt: HostRuntime) -> anyhow::Result<()> {
-    run(&rt)
 }

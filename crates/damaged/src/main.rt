@@ -22,12 +22,8 @@ fn print_accounts(rt: &HostRuntime, texts: &[u8]) -> anyhow::Result<()> {
     Ok(())
 }
 
-fn run(rt: &HostRuntime) -> anyhow::Result<()> {
+fn main(rt: HostRuntime) -> anyhow::Result<()> {
     let mut texts = Vec::new(rt.alloc());
     rt.stdin().read_to_end(&mut texts)?;
-    print_accounts(rt, texts.as_slice())
-}
-
-fn main(rt: HostRuntime) -> anyhow::Result<()> {
-    run(&rt)
+    print_accounts(&rt, texts.as_slice())
 }

@@ -20,10 +20,7 @@ fn print_figure<K: Kind>(rt: &HostRuntime, joint: &K, mode: u32) -> io::Result<(
 
 // The shear modes, and then the tying modes.
 fn print_figures<K: Kind>(rt: &HostRuntime, joint: &K) -> io::Result<()> {
-    for mode in 1..=K::SHEAR_MODES {
-        print_figure(rt, joint, mode)?;
-    }
-    for mode in 21..=20 + K::TYING_MODES {
+    for mode in (1..=K::SHEAR_MODES).chain(21..=20 + K::TYING_MODES) {
         print_figure(rt, joint, mode)?;
     }
     println!(rt)
@@ -49,13 +46,9 @@ fn print_cards(rt: &HostRuntime, text: &[u8]) -> io::Result<()> {
     Ok(())
 }
 
-fn run(rt: &HostRuntime) -> anyhow::Result<()> {
+fn main(rt: HostRuntime) -> anyhow::Result<()> {
     let mut text = Vec::new(rt.alloc());
     rt.stdin().read_to_end(&mut text)?;
-    print_cards(rt, text.as_slice())?;
+    print_cards(&rt, text.as_slice())?;
     Ok(())
-}
-
-fn main(rt: HostRuntime) -> anyhow::Result<()> {
-    run(&rt)
 }
