@@ -1,9 +1,12 @@
 // The questions. They change nothing.
 ghost use Rattle.std.specs.Prelude.{◌≡◌};
-ghost use Rattle.places.specs.Places.{state_at, card_at, joint_at, sheet_at, known, figure_at, class_count, state_count};
+ghost use Rattle.places.specs.Places.{due, giving, state_at, card_at, joint_at, sheet_at, known, figure_at, class_count, state_count};
+ghost use Rattle.places.specs.declared.place.Event.TheVariants as event;
+ghost use Rattle.places.specs.declared.place.State.TheVariants as state;
 
 use crate::fault::RailFault;
 use crate::place::{Place, State};
+use joint::checks::owed;
 use joint::kind::Kind;
 use joint::sheet::Sheet;
 
@@ -16,9 +19,10 @@ pub fn state_in<K: Kind>(places: &[Place<K>], place: usize) -> Result<State, Rai
         .ok_or(RailFault::NoPlace(place))
 }
 
-// The admitted joint that hangs there, with its sheet.
+// The admitted joint that hangs there, with its sheet: refused exactly as the asking of a place is.
 fn card_in<K: Kind>(places: &[Place<K>], place: usize) -> Result<(K, Sheet), RailFault>
-    ensures { result ≡ card_at places.now place }
+    ensures value { result ≡ card_at places.now place }
+    ensures asked { giving (λ _. state.Hanging) result ≡ due places.now place event.Ask }
 {
     match places.get(place) {
         Some(Place::Hanging(joint, sheet)) => Ok((*joint, *sheet)),
@@ -46,11 +50,9 @@ pub fn sheet_in<K: Kind>(places: &[Place<K>], place: usize) -> Result<Sheet, Rai
 fn known_mode<K: Kind>(mode: u32) -> Result<(), RailFault>
     ensures { result ≡ known K.SHEAR_MODES K.TYING_MODES mode }
 {
-    if (1..=K::SHEAR_MODES).contains(&mode) || (mode >= 21 && mode - 21 < K::TYING_MODES) {
-        Ok(())
-    } else {
-        Err(RailFault::NoMode(mode))
-    }
+    let shear = (1..=K::SHEAR_MODES).contains(&mode);
+    let tying = (21..21 + K::TYING_MODES).contains(&mode);
+    owed(shear || tying, RailFault::NoMode(mode))
 }
 
 // The figure of a mode of the joint that hangs there, and nothing where the mode does not bind.

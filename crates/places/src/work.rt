@@ -5,6 +5,7 @@ ghost use Rattle.places.specs.Places.{due, own, then, card_to, hang_to, lift_to,
 use crate::fault::RailFault;
 use crate::place::{Event, Place, State};
 use crate::turns::turn;
+use joint::checks::owed;
 use joint::kind::Kind;
 use joint::sheet::Sheet;
 use joint::work::worked_sheet;
@@ -25,11 +26,7 @@ pub(crate) fn due_at<K>(places: &[Place<K>], place: usize, event: Event) -> Resu
 fn own_slip(number: u32, shown: u32, place: usize) -> Result<(), RailFault>
     ensures { result ≡ own number shown place }
 {
-    if shown == number {
-        Ok(())
-    } else {
-        Err(RailFault::BadSlip(place))
-    }
+    owed(shown == number, RailFault::BadSlip(place))
 }
 
 // Leaves the place as `next`, where the event is due there.

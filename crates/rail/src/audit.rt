@@ -10,7 +10,7 @@ ghost use Rattle.rail.specs.declared.call.Call.{Call};
 
 use crate::rail::Rail;
 use joint::kind::Kind;
-use places::place::State;
+use places::place::{Place, State};
 use places::questions::count_in;
 
 // How many places hang, and how many are lifted.
@@ -20,6 +20,18 @@ pub struct Standing {
     pub lifted: usize,
 }
 
+impl Standing {
+    pub fn of<K: Kind>(places: &[Place<K>]) -> Standing
+        ensures hanging { result.hanging ≡ state_count state.Hanging places.now }
+        ensures lifted { result.lifted ≡ state_count state.Lifted places.now }
+    {
+        Standing {
+            hanging: count_in(places, State::Hanging),
+            lifted: count_in(places, State::Lifted),
+        }
+    }
+}
+
 impl<'a, K: Kind> Rail<'a, K> {
     // How the places stand. Whatever calls have led here from opening, the law over runs holds of them and of this rail.
     pub fn audit(&self) -> Standing
@@ -27,9 +39,6 @@ impl<'a, K: Kind> Rail<'a, K> {
         ensures lifted { result.lifted ≡ state_count state.Lifted (table_of self.now).places }
         ensures law { (number size : ℕ) (cs : List (Call K.Joint)) → table_of self.now ≡ run K.Kind (opened number size) cs → Law K.Kind number size cs (table_of self.now) }
     {
-        Standing {
-            hanging: count_in(self.places, State::Hanging),
-            lifted: count_in(self.places, State::Lifted),
-        }
+        Standing::of(self.places)
     }
 }

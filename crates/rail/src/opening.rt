@@ -4,6 +4,7 @@ ghost use Rattle.rail.specs.Model.{table_of};
 ghost use Rattle.rail.specs.Table.{opened, open_answer, empties};
 
 use crate::rail::Rail;
+use joint::checks::owed;
 use joint::kind::Kind;
 use places::fault::RailFault;
 use places::place::Place;
@@ -15,11 +16,7 @@ const MOST: usize = 4096;
 pub(crate) fn length_allowed(size: usize) -> Result<(), RailFault>
     ensures { result ≡ open_answer size }
 {
-    if (1..=MOST).contains(&size) {
-        Ok(())
-    } else {
-        Err(RailFault::Length(size))
-    }
+    owed((1..=MOST).contains(&size), RailFault::Length(size))
 }
 
 // Empties every place.
