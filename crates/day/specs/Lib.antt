@@ -1,4 +1,5 @@
 pub mod DayRails
 pub mod Days
 pub mod Desks
+pub mod Printed
 pub mod Scripts

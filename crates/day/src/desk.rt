@@ -42,7 +42,7 @@ pub enum Outcome<R> {
 
 pub struct Desk<'a, K: Kind> {
     rail: Rail<'a, K>,
-    // in the order of the lifts
+    // the last that was kept stands last
     kept: Vec<Kept<K::Joint>>,
     log: Vec<Entry<K::Joint>>,
 }
@@ -88,7 +88,9 @@ fn made<R>(call: Call<R>, answered: Result<Answer<R>, RailFault>) -> Outcome<R>
 impl<'a, K: Kind> Desk<'a, K> {
     // A desk at the beginning of its day.
     pub fn new(heap: Global, rail: Rail<'a, K>) -> Desk<'a, K>
-        ensures { (table_of result.rail ≡ table_of rail.entry) × (result.log.items ≡ []) }
+        ensures rail { table_of result.rail ≡ table_of rail.entry }
+        ensures kept { result.kept.items ≡ [] }
+        ensures log { result.log.items ≡ [] }
     {
         Desk {
             rail,
@@ -241,7 +243,7 @@ impl<'a, K: Kind> Desk<'a, K> {
         }
     }
 
-    // Hangs back unchanged every card that is still lifted, the last that was lifted first: no slip is out after this.
+    // Hangs back unchanged every card that is still lifted, the last slip that was kept first: no slip is out after this.
     // Where there was no memory to note them all, the answer says so.
     #[tactic(auto, using(crate::proofs::Goes::goes_on_noted))]
     pub fn settle_all(&mut self) -> Result<(), AllocError>

@@ -1,7 +1,8 @@
 // The desks of a day, one for each rail, and the one that orders are for.
-ghost use Rattle.std.specs.Prelude.{◌≡◌, ◌<◌, ◌≤◌, length, IfSome, IfOk, OnOk};
+ghost use Rattle.std.specs.Prelude.{◌≡◌, ◌<◌, ◌≤◌, length, Some, IfSome, IfOk, OnOk};
 ghost use Rattle.day.specs.DayRails.{rail_number, RailNumbered, BothWent};
 ghost use Rattle.day.specs.Desks.{Went};
+ghost use Rattle.day.specs.Printed.{rail_text, no_rail_text};
 
 use crate::desk::Desk;
 use crate::order::read_order;
@@ -51,12 +52,16 @@ impl TryFrom<u32> for DayRail {
 }
 
 impl fmt::Display for DayRail {
+    ghost output = { λ r. Some (rail_text r) };
+
     fn fmt<W: fmt::Write>(&self, f: &mut fmt::Formatter<W>) -> fmt::Result {
         write!(f, "{}", self.number())
     }
 }
 
 impl fmt::Display for NoRail {
+    ghost output = { λ _. Some no_rail_text };
+
     fn fmt<W: fmt::Write>(&self, f: &mut fmt::Formatter<W>) -> fmt::Result {
         write!(f, "there is no such rail")
     }

@@ -6,12 +6,11 @@ mod desks;
 mod order;
 mod print;
 
-use anyhow::anyhow;
+use anyhow::{anyhow, ensure};
 use desk::{Closed, Desk};
 use desks::{DayRail, Desks};
 use joint::kind::Kind;
-use places::place::{Place, State};
-use places::questions::count_in;
+use places::place::Place;
 use rail::audit::Standing;
 use rail::call::Call;
 use rail::rail::Rail;
@@ -44,21 +43,20 @@ where
     K::Joint: PartialEq,
 {
     let heap = rt.alloc();
-    let calls: Vec<Call<K::Joint>> = closed.log.iter().map(|entry| entry.call).collect(heap)?;
+    let calls = closed.log.iter().map(|entry| entry.call);
+    let Ok(calls) = calls.collect::<Vec<Call<K::Joint>>>(heap) else {
+        return Err(anyhow!("day: no memory to replay the day"));
+    };
     let Ok(answers) = replay(heap, rail.number(), places, calls.as_slice()) else {
         return Err(anyhow!("day: no memory to replay the day"));
     };
-    let again = Standing {
-        hanging: count_in(places, State::Hanging),
-        lifted: count_in(places, State::Lifted),
-    };
     let answered = closed.log.iter().map(|entry| &entry.answer);
-    if answers.iter().eq(answered) && again == closed.standing {
-        println!(rt; "the replay agrees")?;
-        Ok(())
-    } else {
-        Err(anyhow!("day: the replay of the day differs from its log"))
-    }
+    ensure!(
+        answers.iter().eq(answered) && Standing::of(places) == closed.standing,
+        "day: the replay of the day differs from its log"
+    );
+    println!(rt; "the replay agrees")?;
+    Ok(())
 }
 
 // The end of the day on one of its rails.

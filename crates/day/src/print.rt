@@ -1,7 +1,10 @@
 // The account of a day, a line for each call.
+ghost use Rattle.std.specs.Prelude.{Some};
+ghost use Rattle.day.specs.Printed.{call_text, sheet_text, fault_text, answer_text, entry_text, outcome_text};
+
 use crate::desk::{Entry, Outcome};
 use joint::fault::FaultCode;
-use joint::sheet::{Governing, Sheet};
+use joint::sheet::Sheet;
 use places::place::State;
 use rail::call::{Answer, Call};
 use std::fmt;
@@ -20,6 +23,8 @@ pub struct FaultText(pub FaultCode);
 struct AnswerText<'a, R>(&'a Answer<R>);
 
 impl<R> fmt::Display for CallText<'_, R> {
+    ghost output = { λ c. Some (call_text c.0.now) };
+
     fn fmt<W: fmt::Write>(&self, f: &mut fmt::Formatter<W>) -> fmt::Result {
         match self.0 {
             Call::Hang(place, _) => write!(f, "hang {place}"),
@@ -37,16 +42,17 @@ impl<R> fmt::Display for CallText<'_, R> {
 
 // Where no tying mode binds, the figure and the mode are 0.
 impl fmt::Display for SheetText<'_> {
+    ghost output = { λ s. Some (sheet_text s.0.now) };
+
     fn fmt<W: fmt::Write>(&self, f: &mut fmt::Formatter<W>) -> fmt::Result {
         let Sheet {
             shear,
-            tying,
+            tying: _,
             class,
             unmet,
             count,
         } = *self.0;
-        let none = Governing { mode: 0, figure: 0 };
-        let tying = tying.unwrap_or(none);
+        let tying = self.0.tie();
         write!(f, "shear={} mode={} ", shear.figure, shear.mode)?;
         write!(f, "tie={} tiemode={} ", tying.figure, tying.mode)?;
         write!(f, "class={class} unmet={unmet} count={count}")
@@ -54,6 +60,8 @@ impl fmt::Display for SheetText<'_> {
 }
 
 impl fmt::Display for FaultText {
+    ghost output = { λ f. Some (fault_text f.0) };
+
     fn fmt<W: fmt::Write>(&self, f: &mut fmt::Formatter<W>) -> fmt::Result {
         let FaultCode { layer, number, at } = self.0;
         write!(f, "refused layer={layer} fault={number} at={at}")
@@ -61,6 +69,8 @@ impl fmt::Display for FaultText {
 }
 
 impl<R> fmt::Display for AnswerText<'_, R> {
+    ghost output = { λ a. Some (answer_text a.0.now) };
+
     fn fmt<W: fmt::Write>(&self, f: &mut fmt::Formatter<W>) -> fmt::Result {
         match self.0 {
             Answer::Done => write!(f, "done"),
@@ -79,12 +89,16 @@ impl<R> fmt::Display for AnswerText<'_, R> {
 }
 
 impl<R> fmt::Display for Entry<R> {
+    ghost output = { λ e. Some (entry_text e) };
+
     fn fmt<W: fmt::Write>(&self, f: &mut fmt::Formatter<W>) -> fmt::Result {
         write!(f, "{}: {}", CallText(&self.call), AnswerText(&self.answer))
     }
 }
 
 impl<R> fmt::Display for Outcome<R> {
+    ghost output = { λ o. Some (outcome_text o) };
+
     fn fmt<W: fmt::Write>(&self, f: &mut fmt::Formatter<W>) -> fmt::Result {
         match self {
             Outcome::Made(entry) => write!(f, "{entry}"),
