@@ -40,6 +40,22 @@ module _ {R : Type 0} where
   BySlip (Figure p i) q = ⊥
   BySlip (Class n) q = ⊥
 
+  -- the order comes to a call: a slip is kept for its place, where it goes by one, and there is its class
+  pub record ComesToCall (ks : List (Kept R)) (o : Order R) : Type 0 where
+    pub by_slip : (p : ℕ) → BySlip o p → NoneFor ks p → ⊥
+    pub by_class : (n : ℕ) → o ≡ Class n → n < 256
+
+  -- of `room` places for slips, `kept` are taken: there is one more for the slip that an order may hand out, which only a lift does
+  abbrev pub SlipRoom : Order R → (kept room : ℕ) → Type 0
+  SlipRoom (Hang p r) kept room = Unit {0}
+  SlipRoom (Lift p) kept room = kept < room
+  SlipRoom (Back p r) kept room = Unit {0}
+  SlipRoom (Scrap p) kept room = Unit {0}
+  SlipRoom (State p) kept room = Unit {0}
+  SlipRoom (Sheet p) kept room = Unit {0}
+  SlipRoom (Figure p i) kept room = Unit {0}
+  SlipRoom (Class n) kept room = Unit {0}
+
 -- the calls of a log, and what was answered to them
 module _ {R : Type 0} where
   abbrev pub calls_of : List (Entry R) → List (Call R)

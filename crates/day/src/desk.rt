@@ -1,6 +1,6 @@
 // A coordinator's desk: a rail, the slips that are out, and the day's log.
 ghost use Rattle.std.specs.Prelude.{◌≡◌, ◌<◌, [], IfOk, vec_len, vec_capacity, MatchOption, OnOk, OnErr, OnSome};
-ghost use Rattle.day.specs.Days.{NoneFor, Carried};
+ghost use Rattle.day.specs.Days.{NoneFor, ComesToCall, SlipRoom, Carried};
 ghost use Rattle.day.specs.Desks.{Called, HungBack, Went, Unchanged, Ended};
 ghost use Rattle.day.specs.declared.desk.Outcome.TheVariants.{Made};
 ghost use Rattle.rail.specs.Model.{table_of};
@@ -11,7 +11,7 @@ use crate::order::Order;
 use joint::kind::Kind;
 use places::fault::RailFault;
 use rail::audit::Standing;
-use rail::call::{Answer, Call};
+use rail::call::{Answer, Call, Noted};
 use rail::rail::Rail;
 use rail::slip::Slip;
 use std::alloc::{AllocError, Global};
@@ -27,6 +27,14 @@ pub struct Kept<R> {
 pub struct Entry<R> {
     pub call: Call<R>,
     pub answer: Answer<R>,
+}
+
+impl<R: Copy> Noted<R> for Entry<R> {
+    ghost call = { λ e. e.call };
+
+    fn noted(&self) -> Call<R> {
+        self.call
+    }
 }
 
 // What became of an order.
@@ -163,9 +171,35 @@ impl<'a, K: Kind> Desk<'a, K> {
         Ok(Answer::Prints(figure))
     }
 
+    // What becomes of an order that comes to no call: for its place no slip is kept, or there is no such class.
+    fn no_call(&self, order: Order<K::Joint>) -> Option<Outcome<K::Joint>>
+        ensures { MatchOption result (ComesToCall self.now.kept.items order) (λ x. Carried K.Kind (table_of self.now.rail) self.now.kept.items order x (table_of self.now.rail)) }
+    {
+        match order {
+            Order::Back(place, _) | Order::Scrap(place) => {
+                let none_kept = self.kept.iter().all(|out| out.slip.place() != place);
+                none_kept.then_some(Outcome::NoSlip(place))
+            }
+            Order::Class(class) => (class > 255).then_some(Outcome::NoClass(class)),
+            _ => None,
+        }
+    }
+
+    // Room for the slip that an order may hand out.
+    fn make_room(&mut self, order: Order<K::Joint>) -> Result<(), AllocError>
+        ensures room { OnOk result (SlipRoom order (vec_len self.new.kept) (vec_capacity self.new.kept)) }
+        ensures unchanged { Unchanged self.old self.new }
+        ensures log { self.new.log ≡ self.old.log }
+    {
+        if let Order::Lift(_) = order {
+            self.kept.reserve(1)?;
+        }
+        Ok(())
+    }
+
     // Makes the call of an order. There is room for the slip that it may hand out.
     fn make(&mut self, order: Order<K::Joint>) -> Outcome<K::Joint>
-        requires { vec_len self.old.kept < vec_capacity self.old.kept }
+        requires { SlipRoom order (vec_len self.old.kept) (vec_capacity self.old.kept) }
         ensures carried { Carried K.Kind (table_of self.old.rail) self.old.kept.items order result (table_of self.new.rail) }
         ensures log { self.new.log ≡ self.old.log }
     {
@@ -201,13 +235,18 @@ impl<'a, K: Kind> Desk<'a, K> {
         }
     }
 
-    // Carries out an order, and notes the call in the log. Room for both comes first: without it no call is made.
+    // Carries out an order, and notes the call in the log. Room for what the call needs comes first: without it no call is made.
+    // An order that comes to no call needs none, and is never refused.
     pub fn carry_out(&mut self, order: Order<K::Joint>) -> Result<Outcome<K::Joint>, AllocError>
         ensures carried { IfOk result (λ x. Carried K.Kind (table_of self.old.rail) self.old.kept.items order x (table_of self.new.rail)) }
         ensures stretch { OnOk result (Went K.Kind self.old self.new) }
         ensures unchanged { OnErr result (Unchanged self.old self.new) }
+        ensures needed { OnErr result (ComesToCall self.old.kept.items order) }
     {
-        self.kept.reserve(1)?;
+        if let Some(none) = self.no_call(order) {
+            return Ok(none);
+        }
+        self.make_room(order)?;
         self.log.reserve(1)?;
         match self.make(order) {
             Outcome::Made(entry) => {

@@ -12,9 +12,8 @@ use desks::{DayRail, Desks};
 use joint::kind::Kind;
 use places::place::Place;
 use rail::audit::Standing;
-use rail::call::Call;
 use rail::rail::Rail;
-use rail::replay::replay;
+use rail::replay::replay_log;
 use std::io;
 use std::io::Read;
 
@@ -42,12 +41,8 @@ fn check_day<K: Kind>(
 where
     K::Joint: PartialEq,
 {
-    let heap = rt.alloc();
-    let calls = closed.log.iter().map(|entry| entry.call);
-    let Ok(calls) = calls.collect::<Vec<Call<K::Joint>>>(heap) else {
-        return Err(anyhow!("day: no memory to replay the day"));
-    };
-    let Ok(answers) = replay(heap, rail.number(), places, calls.as_slice()) else {
+    let replayed = replay_log(rt.alloc(), rail.number(), places, closed.log.as_slice());
+    let Ok(answers) = replayed else {
         return Err(anyhow!("day: no memory to replay the day"));
     };
     let answered = closed.log.iter().map(|entry| &entry.answer);

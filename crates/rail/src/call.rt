@@ -1,4 +1,7 @@
 // The calls of a rail by their arguments alone, and what is answered. `R` is what a card says of a joint.
+ghost use Rattle.std.specs.Prelude.{◌≡◌};
+ghost use Rattle.rail.specs.declared.call.Call.{Call};
+
 use joint::sheet::Sheet;
 use places::fault::RailFault;
 use places::place::State;
@@ -15,6 +18,22 @@ pub enum Call<R> {
     AskSheet(usize),
     AskFigure(usize, u32),
     AskClass(u8),
+}
+
+// What a log keeps of a call: the call itself, or an entry that has it.
+pub trait Noted<R> {
+    ghost call: { Self → Call R };
+
+    fn noted(&self) -> Call<R>
+        ensures { result ≡ call self.now };
+}
+
+impl<R: Copy> Noted<R> for Call<R> {
+    ghost call = { λ c. c };
+
+    fn noted(&self) -> Call<R> {
+        *self
+    }
 }
 
 #[derive(Clone, Copy, PartialEq)]

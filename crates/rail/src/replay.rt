@@ -1,11 +1,11 @@
 // A list of calls from opening, by their arguments alone.
-ghost use Rattle.std.specs.Prelude.{◌≡◌, MatchResult};
+ghost use Rattle.std.specs.Prelude.{◌≡◌, map, MatchResult};
 ghost use Rattle.rail.specs.Model.{table_of};
 ghost use Rattle.rail.specs.Replays.{Replayed, Unreplayed};
 ghost use Rattle.rail.specs.Table.{answer, after, as_answer};
 ghost use Rattle.rail.specs.declared.replay.ReplayFault.TheVariants.{Opening, Memory};
 
-use crate::call::{Answer, Call};
+use crate::call::{Answer, Call, Noted};
 use crate::opening::{clear, length_allowed};
 use crate::rail::Rail;
 use joint::kind::Kind;
@@ -78,8 +78,27 @@ impl From<AllocError> for ReplayFault {
     }
 }
 
-// Opens a rail and makes the calls in turn. What is answered and left is what the table of places has, and the law over runs holds.
+// Opens a rail and makes the calls of a log in turn. What is answered and left is what the table of places has, and the law over runs holds.
 // Refused, it leaves the places as they were: the memory for the answers is had before a place is touched.
+pub fn replay_log<K: Kind, N: Noted<K::Joint>>(
+    heap: Global,
+    number: u32,
+    places: &mut [Place<K>],
+    log: &[N],
+) -> Result<Vec<Answer<K::Joint>>, ReplayFault>
+    ensures { MatchResult result (λ v. Replayed K.Kind number places.old (map N.call log.now) v.items places.new) (λ f. Unreplayed places.old places.new f) }
+{
+    length_allowed(places.len())?;
+    let mut answers = Vec::with_capacity(heap, log.len())?;
+    clear(places);
+    let mut rail = Rail { number, places };
+    for entry in log {
+        answers.push_reserved(rail.perform(entry.noted()));
+    }
+    Ok(answers)
+}
+
+// The same of a list of calls.
 pub fn replay<K: Kind>(
     heap: Global,
     number: u32,
@@ -88,12 +107,5 @@ pub fn replay<K: Kind>(
 ) -> Result<Vec<Answer<K::Joint>>, ReplayFault>
     ensures { MatchResult result (λ v. Replayed K.Kind number places.old calls.now v.items places.new) (λ f. Unreplayed places.old places.new f) }
 {
-    length_allowed(places.len())?;
-    let mut answers = Vec::with_capacity(heap, calls.len())?;
-    clear(places);
-    let mut rail = Rail { number, places };
-    for call in calls {
-        answers.push_reserved(rail.perform(*call));
-    }
-    Ok(answers)
+    replay_log(heap, number, places, calls)
 }
