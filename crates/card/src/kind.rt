@@ -1,5 +1,5 @@
 // The kinds of joint by their cards.
-ghost use Rattle.std.specs.Prelude.{◌≡◌, ℕ, true, List, length, ◌≢◌};
+ghost use Rattle.std.specs.Prelude.{◌≡◌, ℕ, ◌≤◌, true, List, length, ◌≢◌};
 ghost use Rattle.card.specs.Text.{all_feedless, bytes_of};
 
 // A joint whose card has `N` lines behind line 1, one for each of its fields.
@@ -15,7 +15,8 @@ pub trait CardKind<const N: usize> {
         ensures { result ≡ initial };
 
     fn key_table() -> &'static [&'static [u8]]
-        ensures { bytes_of result.now ≡ keys };
+        ensures table { bytes_of result.now ≡ keys }
+        ensures few { length result.now ≤ 32 };
 
     // The joint that has these values.
     fn of_values(values: &[u32; N]) -> Self

@@ -18,7 +18,7 @@ returns-in_err-values g c =
     let p = err_from_is_err_and c.from_residual-in_err-values.result c.from_residual-in_err-values.ensures.1 in
     let k = g.met.J.CardKind in
     let bad : Behind g.J.CardKind c.args.text.now p.0 =
-    joint_refused _ _ _ _ c.letter.ensures c.in_ok-start.ensures _ c.key_table.ensures _ (rw p.2 c.in_err-values.ensures) in
+    joint_refused _ _ _ _ c.letter.ensures c.in_ok-start.ensures _ c.key_table.ensures.table _ (rw p.2 c.in_err-values.ensures) in
     record { reads = rw p.1 (inr bad); unique = λ j rest low e. absurd (behind_accepted _ k.counted j _ _ _ (cleans _ k.clean) low e bad) }
 
 pub returns : goal.returns
@@ -26,7 +26,7 @@ returns g c =
     let k = g.met.J.CardKind in
     let joint = c.of_values.result in
     let made : TookJoint g.J.CardKind joint c.args.text.now (c.in_ok-start.start + c.in_ok-values.taken) =
-    joint_took _ _ _ _ c.letter.ensures c.in_ok-start.ensures _ c.key_table.ensures _ _ _ c.in_ok-values.ensures c.of_values.ensures in
+    joint_took _ _ _ _ c.letter.ensures c.in_ok-start.ensures _ c.key_table.ensures.table _ _ _ c.in_ok-values.ensures c.of_values.ensures in
     record {
       reads = made;
       unique = λ j rest low e.
