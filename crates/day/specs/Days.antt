@@ -1,6 +1,7 @@
 -- A day at the desk: what becomes of an order, and the day's log.
-use Rattle.std.specs.Prelude.{◌≡◌, ℕ, ◌<◌, ◌≤◌, List, ◌++◌, length, map, ◌≢◌, slice_index_or}
+use Rattle.std.specs.Prelude.{◌≡◌, ℕ, ◌<◌, ◌≤◌, List, ◌++◌, length, map, ◌≢◌, slice_index_or, IfOk}
 use Rattle.joint.specs.declared.kind.Kind.{Ghosts}
+use Rattle.places.specs.Places.{card_at}
 use Rattle.rail.specs.Runs.{run, answers}
 use Rattle.rail.specs.Table.{Table, answer, after}
 use Rattle.rail.specs.declared.call.Answer.{Answer}
@@ -45,17 +46,6 @@ module _ {R : Type 0} where
     pub by_slip : (p : ℕ) → BySlip o p → NoneFor ks p → ⊥
     pub by_class : (n : ℕ) → o ≡ Class n → n < 256
 
-  -- of `room` places for slips, `kept` are taken: there is one more for the slip that an order may hand out, which only a lift does
-  abbrev pub SlipRoom : Order R → (kept room : ℕ) → Type 0
-  SlipRoom (Hang p r) kept room = Unit {0}
-  SlipRoom (Lift p) kept room = kept < room
-  SlipRoom (Back p r) kept room = Unit {0}
-  SlipRoom (Scrap p) kept room = Unit {0}
-  SlipRoom (State p) kept room = Unit {0}
-  SlipRoom (Sheet p) kept room = Unit {0}
-  SlipRoom (Figure p i) kept room = Unit {0}
-  SlipRoom (Class n) kept room = Unit {0}
-
 -- the calls of a log, and what was answered to them
 module _ {R : Type 0} where
   abbrev pub calls_of : List (Entry R) → List (Call R)
@@ -65,6 +55,17 @@ module _ {R : Type 0} where
   answers_of = map (λ e. e.answer)
 
 module _ {J R : Type 0} where
+  -- of `room` places for slips, `kept` are taken: there is one more for the slip that an order hands out, which only the lift of a hanging card does
+  abbrev pub SlipRoom : Table J → Order R → (kept room : ℕ) → Type 0
+  SlipRoom t (Hang p r) kept room = Unit {0}
+  SlipRoom t (Lift p) kept room = IfOk (card_at t.places p) (λ _. kept < room)
+  SlipRoom t (Back p r) kept room = Unit {0}
+  SlipRoom t (Scrap p) kept room = Unit {0}
+  SlipRoom t (State p) kept room = Unit {0}
+  SlipRoom t (Sheet p) kept room = Unit {0}
+  SlipRoom t (Figure p i) kept room = Unit {0}
+  SlipRoom t (Class n) kept room = Unit {0}
+
   -- at a desk that keeps the slips ks, the order leads the table t to u: a call is the order's, and is answered and leaves the rail as the table says; where none is made the rail is as it was
   abbrev pub Carried : Ghosts J R → Table J → List (Kept R) → Order R → Outcome R → Table J → Type 0
   Carried k t ks o (Made e) u = CallOf o e.call × (e.answer ≡ answer k t e.call) × (u ≡ after k t e.call)

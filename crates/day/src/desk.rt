@@ -3,6 +3,7 @@ ghost use Rattle.std.specs.Prelude.{◌≡◌, ◌<◌, [], IfOk, vec_len, vec_c
 ghost use Rattle.day.specs.Days.{NoneFor, ComesToCall, SlipRoom, Carried};
 ghost use Rattle.day.specs.Desks.{Called, HungBack, Went, Unchanged, Ended};
 ghost use Rattle.day.specs.declared.desk.Outcome.TheVariants.{Made};
+ghost use Rattle.places.specs.Places.{card_at};
 ghost use Rattle.rail.specs.Model.{table_of};
 ghost use Rattle.rail.specs.Table.{answer, as_answer};
 ghost use Rattle.rail.specs.declared.call.Call.TheVariants.{Hang, Lift, HangBack, Scrap, AskState, AskSheet, AskFigure};
@@ -116,7 +117,7 @@ impl<'a, K: Kind> Desk<'a, K> {
 
     // Lifts a card, and keeps the slip with what the card says.
     fn lift(&mut self, place: usize) -> Result<Answer<K::Joint>, RailFault>
-        requires { vec_len self.old.kept < vec_capacity self.old.kept }
+        requires { IfOk (card_at (table_of self.old.rail).places place) (λ _. vec_len self.old.kept < vec_capacity self.old.kept) }
         ensures { Called K.Kind self.old (Lift place) result self.new }
     {
         let held = self.rail.joint(place);
@@ -185,21 +186,21 @@ impl<'a, K: Kind> Desk<'a, K> {
         }
     }
 
-    // Room for the slip that an order may hand out.
+    // Room for the slip that an order hands out.
     fn make_room(&mut self, order: Order<K::Joint>) -> Result<(), AllocError>
-        ensures room { OnOk result (SlipRoom order (vec_len self.new.kept) (vec_capacity self.new.kept)) }
+        ensures room { OnOk result (SlipRoom (table_of self.new.rail) order (vec_len self.new.kept) (vec_capacity self.new.kept)) }
         ensures unchanged { Unchanged self.old self.new }
         ensures log { self.new.log ≡ self.old.log }
     {
-        if let Order::Lift(_) = order {
-            self.kept.reserve(1)?;
+        match order {
+            Order::Lift(place) if self.rail.joint(place).is_ok() => self.kept.reserve(1),
+            _ => Ok(()),
         }
-        Ok(())
     }
 
-    // Makes the call of an order. There is room for the slip that it may hand out.
+    // Makes the call of an order. There is room for the slip that it hands out.
     fn make(&mut self, order: Order<K::Joint>) -> Outcome<K::Joint>
-        requires { SlipRoom order (vec_len self.old.kept) (vec_capacity self.old.kept) }
+        requires { SlipRoom (table_of self.old.rail) order (vec_len self.old.kept) (vec_capacity self.old.kept) }
         ensures carried { Carried K.Kind (table_of self.old.rail) self.old.kept.items order result (table_of self.new.rail) }
         ensures log { self.new.log ≡ self.old.log }
     {
